@@ -128,43 +128,51 @@ fn long_memory(rt: &LibcRuntime) -> io::Result<()> {
     println!(rt, "  word 65536 still {past}")
 }
 
-fn edges(rt: &LibcRuntime) -> io::Result<()> {
+fn window_edges(rt: &LibcRuntime) -> io::Result<()> {
     let mut words = [10u16, 11, 12, 13];
     println!(rt, "window over the words' end")?;
+    let below = Words { words: &mut words };
     all(
         rt,
         &mut Window {
-            store: Words { words: &mut words },
+            store: below,
             base: 3,
             size: 2,
         },
         &[0, 1, 2],
     )?;
     println!(rt, "empty window")?;
+    let below = Words { words: &mut words };
     all(
         rt,
         &mut Window {
-            store: Words { words: &mut words },
+            store: below,
             base: 0,
             size: 0,
         },
         &[0],
-    )?;
+    )
+}
+
+fn fence_edges(rt: &LibcRuntime) -> io::Result<()> {
+    let mut words = [10u16, 11, 12, 13];
     println!(rt, "fence past the words' end")?;
+    let below = Words { words: &mut words };
     all(
         rt,
         &mut Fence {
-            store: Words { words: &mut words },
+            store: below,
             low: 3,
             high: 4294967295,
         },
         &[2, 3, 4],
     )?;
     println!(rt, "fence turned round")?;
+    let below = Words { words: &mut words };
     all(
         rt,
         &mut Fence {
-            store: Words { words: &mut words },
+            store: below,
             low: 3,
             high: 1,
         },
@@ -179,22 +187,27 @@ fn edges(rt: &LibcRuntime) -> io::Result<()> {
             high: 65536,
         },
         &[9],
-    )?;
+    )
+}
+
+fn split_edges(rt: &LibcRuntime) -> io::Result<()> {
     let mut bytes = [0u8, 1, 0, 2];
     println!(rt, "split at 0 and past all")?;
+    let second = Bytes { bytes: &mut bytes };
     all(
         rt,
         &mut Split {
             first: Nowhere,
-            second: Bytes { bytes: &mut bytes },
+            second,
             border: 0,
         },
         &[1, 2],
     )?;
+    let first = Bytes { bytes: &mut bytes };
     all(
         rt,
         &mut Split {
-            first: Bytes { bytes: &mut bytes },
+            first,
             second: Nowhere,
             border: 4294967295,
         },
@@ -230,6 +243,8 @@ fn pile(rt: &LibcRuntime) -> io::Result<()> {
 fn main(rt: LibcRuntime) -> io::Result<()> {
     single_stores(&rt)?;
     long_memory(&rt)?;
-    edges(&rt)?;
+    window_edges(&rt)?;
+    fence_edges(&rt)?;
+    split_edges(&rt)?;
     pile(&rt)
 }
