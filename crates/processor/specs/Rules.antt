@@ -23,38 +23,54 @@ pub record State (P : Type 0) : Type 0 where
 abbrev pub state : {P : Type 0} → P → View → State P
 state p v = record { processor = p; view = v }
 
--- a word written into a cell, if it can be
-abbrev pub written : {P : Type 0} → Result ℕ Fault → CellWrite → P → View → Result (State P) Fault
-written (Ok old) c p v = Ok (state p (put-into (c .side) v (c .at) (c .word)))
+-- a state that was moved to, and what puts the written cell back
+pub record Moved (P : Type 0) : Type 0 where
+  pub state : State P
+  pub undo : Option CellWrite
+
+-- a word written into a cell, if it can be: the old word goes into the undo
+abbrev pub written : {P : Type 0} → Result ℕ Fault → CellWrite → P → View → Result (Moved P) Fault
+written (Ok old) c p v =
+    Ok (record {
+      state = state p (put-into (c .side) v (c .at) (c .word));
+      undo = Some (record { side = c .side; at = c .at; word = old });
+    })
 written (Err f) c p v = Err f
 
 -- another processor in place, and a cell written if one is to be
-abbrev pub moved : {P : Type 0} → View → P → Option CellWrite → Result (State P) Fault
-moved v p None = Ok (state p v)
-moved v p (Some c) = written (exchange v (c .side) (c .at)) c p v
+abbrev pub with-write : {P : Type 0} → View → P → Option CellWrite → Result (Moved P) Fault
+with-write v p None = Ok (record { state = state p v; undo = None })
+with-write v p (Some c) = written (exchange v (c .side) (c .at)) c p v
 
-abbrev pub moved-by : {P : Type 0} → View → Result (Next P) Fault → Result (State P) Fault
+-- the same, shut to proofs that need not look inside
+unfoldable pub moved : {P : Type 0} → View → P → Option CellWrite → Result (Moved P) Fault
+moved v p w = with-write v p w
+
+abbrev pub moved-by : {P : Type 0} → View → Result (Next P) Fault → Result (Moved P) Fault
 moved-by v (Ok n) = moved v (n .after) (n .write)
 moved-by v (Err f) = Err f
 
+-- the next instruction tried
+abbrev pub next-moved : {P : Type 0} → Rules P → State P → Result (Moved P) Fault
+next-moved r s = moved-by (s .view) (r .next (s .processor) (s .view))
+
+-- the same, shut to proofs that need not look inside
+unfoldable pub stepped : {P : Type 0} → Rules P → State P → Result (Moved P) Fault
+stepped r s = next-moved r s
+
+abbrev pub state-of : {P : Type 0} → Result (Moved P) Fault → Result (State P) Fault
+state-of (Ok m) = Ok (m .state)
+state-of (Err f) = Err f
+
+abbrev pub undo-of : {P : Type 0} → Result (Moved P) Fault → Result (Option CellWrite) Fault
+undo-of (Ok m) = Ok (m .undo)
+undo-of (Err f) = Err f
+
 -- one instruction: the state after it, or why it is refused
 abbrev pub instruction : {P : Type 0} → Rules P → State P → Result (State P) Fault
-instruction r s = moved-by (s .view) (r .next (s .processor) (s .view))
+instruction r s = state-of (stepped r s)
 
 -- the state after what was tried: a refusal leaves it as it was
 abbrev pub or-same : {P : Type 0} → Result (State P) Fault → State P → State P
 or-same (Ok t) s = t
 or-same (Err f) s = s
-
--- what puts a cell back: the word that it has now
-abbrev pub kept : CellWrite → Result ℕ Fault → Result (Option CellWrite) Fault
-kept c (Ok old) = Ok (Some (record { side = c .side; at = c .at; word = old }))
-kept c (Err f) = Err f
-
-abbrev pub undo : View → Option CellWrite → Result (Option CellWrite) Fault
-undo v None = Ok None
-undo v (Some c) = kept c (exchange v (c .side) (c .at))
-
-abbrev pub undo-next : {P : Type 0} → View → Result (Next P) Fault → Result (Option CellWrite) Fault
-undo-next v (Ok n) = undo v (n .write)
-undo-next v (Err f) = Err f

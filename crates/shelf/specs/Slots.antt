@@ -1,12 +1,11 @@
-use mathlib.Core.Bool.{Bool, cond}
+use mathlib.Core.Bool.{Bool, cond, _&&_}
 use mathlib.Core.List.{List}
 use Prim.Native.Nat.{ℕ, _+_, _-_}
-use lib.Dec.{ltb}
+use lib.Dec.{ltb, leb}
 use lib.ListN.{length, set, take}
 use Rattle.std.specs.Finite.{nth}
-use Rattle.std.specs.Options.{isSome}
 use Rattle.std.specs.declared.option.Option.{Option}
-use Rattle.std.specs.declared.option.Option.the-variants.{Some, None}
+use Rattle.std.specs.declared.option.Option.the-variants.{None}
 
 -- the records on a shelf: those in the first slots, as many as are in use
 abbrev pub records : {X : Type 0} → ℕ → List X → List X
@@ -23,9 +22,12 @@ slots-pushed used slots x = cond (has-room used slots) (set slots used x) slots
 abbrev pub used-pushed : {X : Type 0} → ℕ → List X → ℕ
 used-pushed used slots = cond (has-room used slots) (used + 1) used
 
--- the last record in use, if its slot is among those lent
+-- a slot is in use, and the last one in use is among those lent
+abbrev pub has-last : {X : Type 0} → ℕ → List X → Bool
+has-last used slots = ltb 0 used && leb used (length slots)
+
 abbrev pub last-record : {X : Type 0} → ℕ → List X → Option X
-last-record used slots = cond (ltb 0 used) (nth slots (used - 1)) None
+last-record used slots = cond (has-last used slots) (nth slots (used - 1)) None
 
 abbrev pub used-popped : {X : Type 0} → ℕ → List X → ℕ
-used-popped used slots = cond (isSome (last-record used slots)) (used - 1) used
+used-popped used slots = cond (has-last used slots) (used - 1) used

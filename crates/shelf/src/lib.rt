@@ -2,7 +2,7 @@
 ghost use mathlib.Core.Path.{_≡_};
 ghost use lib.ListN.{length, take};
 ghost use Rattle.std.specs.Finite.{nth};
-ghost use Rattle.shelf.specs.Slots.{records, has-room, slots-pushed, used-pushed, last-record, used-popped};
+ghost use Rattle.shelf.specs.Slots.{records, has-room, slots-pushed, used-pushed, has-last, last-record, used-popped};
 
 // How many slots are in use. The slots themselves are lent to each call, and a call goes by those that it is lent.
 #[derive(Clone, Copy)]
@@ -69,11 +69,18 @@ impl Shelf {
         true
     }
 
+    // Whether a slot is in use, and the last one in use is lent.
+    fn has_last<T>(self, slots: &[T]) -> bool
+        ensures { λ r. ⌜ r ≡ has-last (self .used) (now (slots .entry)) ⌝ }
+    {
+        0 < self.used && self.used <= slots.len()
+    }
+
     // The last record.
     pub fn last<T: Copy>(self, slots: &[T]) -> Option<T>
         ensures { λ r. ⌜ r ≡ last-record (self .used) (now (slots .entry)) ⌝ }
     {
-        if self.used == 0 {
+        if !self.has_last(slots) {
             return None;
         }
         slot(slots, self.used - 1)
@@ -85,7 +92,7 @@ impl Shelf {
         ensures used { λ r. ⌜ now (self .exit) .used ≡ used-popped (now (self .entry) .used) (now (slots .entry)) ⌝ }
     {
         let last = self.last(slots);
-        if last.is_some() {
+        if self.has_last(slots) {
             self.used -= 1;
         }
         last

@@ -1,10 +1,6 @@
-use borrow.Author.Needs.{needs}
-use Rattle.processor.proofs.Undone.{refused-undo}
+use Rattle.processor.specs.Rules.{moved}
 use Rattle.processor.proofs.step.replace.Needs as need
 
-pub returns-in-Err : need.returns-in-Err
-returns-in-Err g c =
-    record
-      { answer = refused-undo _ _ _ (c .in-Some .cell) _ (c .in-Some .is) (c .in-Err .ensures tt .answer)
-      ; state = search needs
-      ; places = search needs }
+pub returns : need.returns
+unfolding moved
+returns g c = c .write-and-replace .ensures

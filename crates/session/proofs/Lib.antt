@@ -1,0 +1,3 @@
+mod RunLaws
+mod BackLaws
+mod OpenLaws

@@ -1,0 +1,5 @@
+pub mod Snapshots
+pub mod Runs
+pub mod Backs
+pub mod Looks
+pub mod Opens
