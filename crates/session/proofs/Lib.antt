@@ -1,3 +1,3 @@
 mod RunLaws
-mod BackLaws
+pub mod BackLaws
 mod OpenLaws

@@ -47,9 +47,13 @@ abbrev pub backs-on : {P : Type 0} → ℕ → ℕ → Snapshot P → Gone P
 backs-on n k d = takes (take n (newest (d .used) (d .slots))) k d
 
 -- a back of n, or why it is refused: it goes past the slots in use, or needs slots that are not lent
-abbrev pub back : {P : Type 0} → ℕ → Snapshot P → Result (Gone P) Reason
-back n d =
+abbrev pub back-of : {P : Type 0} → ℕ → Snapshot P → Result (Gone P) Reason
+back-of n d =
     cond (ltb (d .used) n || (ltb 0 n && ltb (length (d .slots)) (d .used))) (Err (rule BackTooFar)) (Ok (backs-on n 0 d))
+
+-- the same, shut to proofs that need not look inside
+unfoldable pub back : {P : Type 0} → ℕ → Snapshot P → Result (Gone P) Reason
+back n d = back-of n d
 
 abbrev pub told-taken : {P : Type 0} → Places → Gone P → Taken
 told-taken p x = record { done = x .done; refusal = told-fault p (x .fault) }

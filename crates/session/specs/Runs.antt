@@ -113,10 +113,14 @@ runs-on r (suc n) k d =
     ]
 
 -- a run of n, or why it is refused
-abbrev pub run : {P : Type 0} → Rules P → ℕ → Snapshot P → Result (Ended P) Reason
-run r n d =
+abbrev pub run-of : {P : Type 0} → Rules P → ℕ → Snapshot P → Result (Ended P) Reason
+run-of r n d =
     cond (ltb 1000000 n) (Err (rule RunTooLong))
     (cond (ltb 4000000000 (d .count + n)) (Err (rule CountTooHigh)) (Ok (runs-on r n 0 d)))
+
+-- the same, shut to proofs that need not look inside
+unfoldable pub run : {P : Type 0} → Rules P → ℕ → Snapshot P → Result (Ended P) Reason
+run r n d = run-of r n d
 
 abbrev pub told-ran : {P : Type 0} → Places → Ended P → Ran
 told-ran p x = record { done = x .done; stop = told-stop p (x .ending) }

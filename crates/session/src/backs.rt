@@ -1,14 +1,11 @@
 // Backs, and forgetting.
 ghost use mathlib.Core.Path.{_≡_};
-ghost use mathlib.Core.List.{List};
 ghost use Prim.Native.Nat.{_<_, _≤_};
 ghost use lib.ListN.{length};
-ghost use Rattle.processor.specs.Views.{View};
 ghost use Rattle.processor.specs.Rules.{state};
-ghost use Rattle.session.specs.declared.entry.Entry.{Entry as Kept};
 ghost use Rattle.session.specs.Snapshots.{snapshot};
 ghost use Rattle.session.specs.Runs.{noted-answer};
-ghost use Rattle.session.specs.Backs.{restored, undone, backs-on, told-taken, back, back-answer, back-after, forgotten};
+ghost use Rattle.session.specs.Backs.{restored, undone, backs-on, told-taken, back-of, back, back-answer, back-after};
 use crate::answers::Taken;
 use crate::entry::Entry;
 use crate::state::Session;
@@ -74,6 +71,27 @@ impl<P: Processor> Session<P> {
         }
     }
 
+    // The back's own checks, then the back.
+    fn checked_back<B: Bus>(
+        &mut self,
+        bus: &mut B,
+        journal: &[Entry<P>],
+        count: u32,
+    ) -> Result<Taken, Refusal>
+        ensures answer { λ r. ⌜ r ≡ back-answer (B·Bus .places (now (bus .entry)))
+            (back-of count (snapshot (now (self .entry)) (B·Bus .view (now (bus .entry))) (now (journal .entry)))) ⌝ }
+        ensures after { λ r. ⌜ snapshot (now (self .exit)) (B·Bus .view (now (bus .exit))) (now (journal .entry))
+            ≡ back-after (back-of count (snapshot (now (self .entry)) (B·Bus .view (now (bus .entry))) (now (journal .entry))))
+            (snapshot (now (self .entry)) (B·Bus .view (now (bus .entry))) (now (journal .entry))) ⌝ }
+        ensures places { λ r. ⌜ B·Bus .places (now (bus .exit)) ≡ B·Bus .places (now (bus .entry)) ⌝ }
+    {
+        let used = self.journal.len();
+        if used < count as usize || (count > 0 && journal.len() < used) {
+            return Err(Cause::BackTooFar.at(0));
+        }
+        Ok(self.back_on(bus, journal, count))
+    }
+
     // Takes the last `count` instructions back, and frees their slots.
     pub fn back<B: Bus>(
         &mut self,
@@ -88,16 +106,14 @@ impl<P: Processor> Session<P> {
             (snapshot (now (self .entry)) (B·Bus .view (now (bus .entry))) (now (journal .entry))) ⌝ }
         ensures places { λ r. ⌜ B·Bus .places (now (bus .exit)) ≡ B·Bus .places (now (bus .entry)) ⌝ }
     {
-        let used = self.journal.len();
-        if used < count as usize || (count > 0 && journal.len() < used) {
-            return Err(Cause::BackTooFar.at(0));
-        }
-        Ok(self.back_on(bus, journal, count))
+        self.checked_back(bus, journal, count)
     }
 
     // Frees all journal slots: what was done can no longer be taken back.
     pub fn forget(&mut self)
-        ensures { λ r. ⌜ ((v : View) (j : List (Kept P)) → snapshot (now (self .exit)) v j ≡ forgotten (snapshot (now (self .entry)) v j)) ⌝ }
+        ensures used { λ r. ⌜ now (self .exit) .journal .used ≡ 0 ⌝ }
+        ensures count { λ r. ⌜ now (self .exit) .count ≡ now (self .entry) .count ⌝ }
+        ensures processor { λ r. ⌜ now (self .exit) .processor ≡ now (self .entry) .processor ⌝ }
     {
         self.journal = Shelf::empty();
     }

@@ -5,7 +5,7 @@ ghost use lib.ListN.{length};
 ghost use Rattle.processor.specs.Views.{answer};
 ghost use Rattle.processor.specs.Rules.{state, stepped};
 ghost use Rattle.session.specs.Snapshots.{snapshot};
-ghost use Rattle.session.specs.Runs.{noted, noted-answer, course, told-turn, turned, runs-on, told-ran, run, run-answer, run-after};
+ghost use Rattle.session.specs.Runs.{noted, noted-answer, course, told-turn, turned, runs-on, told-ran, run-of, run, run-answer, run-after};
 use crate::answers::Ran;
 use crate::answers::Stop;
 use crate::entry::Entry;
@@ -97,6 +97,29 @@ impl<P: Processor> Session<P> {
         }
     }
 
+    // The run's own checks, then the run.
+    fn checked_run<B: Bus>(
+        &mut self,
+        bus: &mut B,
+        journal: &mut [Entry<P>],
+        count: u32,
+    ) -> Result<Ran, Refusal>
+        ensures answer { λ r. ⌜ r ≡ run-answer (B·Bus .places (now (bus .entry))) (run-of (P·Processor .rules) count
+            (snapshot (now (self .entry)) (B·Bus .view (now (bus .entry))) (now (journal .entry)))) ⌝ }
+        ensures after { λ r. ⌜ snapshot (now (self .exit)) (B·Bus .view (now (bus .exit))) (now (journal .exit))
+            ≡ run-after (run-of (P·Processor .rules) count (snapshot (now (self .entry)) (B·Bus .view (now (bus .entry))) (now (journal .entry))))
+            (snapshot (now (self .entry)) (B·Bus .view (now (bus .entry))) (now (journal .entry))) ⌝ }
+        ensures places { λ r. ⌜ B·Bus .places (now (bus .exit)) ≡ B·Bus .places (now (bus .entry)) ⌝ }
+    {
+        if count > 1000000 {
+            return Err(Cause::RunTooLong.at(0));
+        }
+        if count > 4000000000 - self.count {
+            return Err(Cause::CountTooHigh.at(0));
+        }
+        Ok(self.run_on(bus, journal, count))
+    }
+
     // A run of `count` instructions, or fewer where something stops it.
     pub fn run<B: Bus>(
         &mut self,
@@ -111,12 +134,6 @@ impl<P: Processor> Session<P> {
             (snapshot (now (self .entry)) (B·Bus .view (now (bus .entry))) (now (journal .entry))) ⌝ }
         ensures places { λ r. ⌜ B·Bus .places (now (bus .exit)) ≡ B·Bus .places (now (bus .entry)) ⌝ }
     {
-        if count > 1000000 {
-            return Err(Cause::RunTooLong.at(0));
-        }
-        if count > 4000000000 - self.count {
-            return Err(Cause::CountTooHigh.at(0));
-        }
-        Ok(self.run_on(bus, journal, count))
+        self.checked_run(bus, journal, count)
     }
 }

@@ -1,0 +1,9 @@
+mod Undoing
+mod Simulates
+mod LogLaws
+mod Logs
+mod Endings
+mod Keeps
+mod KeptLogs
+mod Stood
+mod Agreeing
