@@ -38,25 +38,17 @@ written (Ok old) c p v =
 written (Err f) c p v = Err f
 
 -- another processor in place, and a cell written if one is to be
-abbrev pub with-write : {P : Type 0} → View → P → Option CellWrite → Result (Moved P) Fault
-with-write v p None = Ok (record { state = state p v; undo = None })
-with-write v p (Some c) = written (exchange v (c .side) (c .at)) c p v
-
--- the same, shut to proofs that need not look inside
-unfoldable pub moved : {P : Type 0} → View → P → Option CellWrite → Result (Moved P) Fault
-moved v p w = with-write v p w
+abbrev pub moved : {P : Type 0} → View → P → Option CellWrite → Result (Moved P) Fault
+moved v p None = Ok (record { state = state p v; undo = None })
+moved v p (Some c) = written (exchange v (c .side) (c .at)) c p v
 
 abbrev pub moved-by : {P : Type 0} → View → Result (Next P) Fault → Result (Moved P) Fault
 moved-by v (Ok n) = moved v (n .after) (n .write)
 moved-by v (Err f) = Err f
 
 -- the next instruction tried
-abbrev pub next-moved : {P : Type 0} → Rules P → State P → Result (Moved P) Fault
-next-moved r s = moved-by (s .view) (r .next (s .processor) (s .view))
-
--- the same, shut to proofs that need not look inside
-unfoldable pub stepped : {P : Type 0} → Rules P → State P → Result (Moved P) Fault
-stepped r s = next-moved r s
+abbrev pub stepped : {P : Type 0} → Rules P → State P → Result (Moved P) Fault
+stepped r s = moved-by (s .view) (r .next (s .processor) (s .view))
 
 abbrev pub state-of : {P : Type 0} → Result (Moved P) Fault → Result (State P) Fault
 state-of (Ok m) = Ok (m .state)

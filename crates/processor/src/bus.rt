@@ -1,5 +1,7 @@
 // What a processor is connected to, and any processor by its rules.
 ghost use mathlib.Core.Path.{_≡_};
+ghost use Prim.Native.Nat.{_<_};
+ghost use Rattle.std.specs.Options.{Cases as BySome};
 ghost use Rattle.processor.specs.Views.{View, Places, answer, look, probe, exchange, exchanged};
 ghost use Rattle.processor.specs.Rules.{Rules};
 use crate::Mark;
@@ -22,9 +24,10 @@ pub trait Bus {
     fn probe(&self, side: Side, at: u16) -> Result<(), Refusal>
         ensures { λ r. ⌜ r ≡ answer (places (now (self .entry))) (probe (view (now (self .entry))) side at) ⌝ };
 
-    // The key at a count, if there is one.
+    // The key at a count, if there is one; there is none above 65,535.
     fn key(&self, count: u32) -> Option<u16>
-        ensures { λ r. ⌜ r ≡ view (now (self .entry)) .keys count ⌝ };
+        ensures answer { λ r. ⌜ r ≡ view (now (self .entry)) .keys count ⌝ }
+        ensures bound { λ r. ⌜ BySome r (Unit {0}) (λ key. count < 65536) ⌝ };
 
     // Puts a word into a cell, and answers the word that stood there.
     fn exchange(&mut self, side: Side, at: u16, word: u16) -> Result<u16, Refusal>

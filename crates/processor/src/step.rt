@@ -1,22 +1,22 @@
 // One instruction, done.
 ghost use mathlib.Core.Path.{_≡_};
 ghost use Rattle.processor.specs.Views.{answer};
-ghost use Rattle.processor.specs.Rules.{state, or-same, with-write, moved, next-moved, stepped, state-of, undo-of, instruction};
+ghost use Rattle.processor.specs.Rules.{state, or-same, moved, stepped, state-of, undo-of, instruction};
 use crate::CellWrite;
 use crate::bus::Bus;
 use crate::bus::Processor;
 use refusal::Refusal;
 
-// The cell first, which may be refused, then the processor.
-fn write_and_replace<P: Copy, B: Bus>(
+// Puts another processor in place and writes a cell, if one is to be written; answers what puts the cell back.
+pub fn replace<P: Copy, B: Bus>(
     processor: &mut P,
     bus: &mut B,
     after: P,
     write: Option<CellWrite>,
 ) -> Result<Option<CellWrite>, Refusal>
-    ensures answer { λ r. ⌜ r ≡ answer (B·Bus .places (now (bus .entry))) (undo-of (with-write (B·Bus .view (now (bus .entry))) after write)) ⌝ }
+    ensures answer { λ r. ⌜ r ≡ answer (B·Bus .places (now (bus .entry))) (undo-of (moved (B·Bus .view (now (bus .entry))) after write)) ⌝ }
     ensures state { λ r. ⌜ state (now (processor .exit)) (B·Bus .view (now (bus .exit)))
-        ≡ or-same (state-of (with-write (B·Bus .view (now (bus .entry))) after write)) (state (now (processor .entry)) (B·Bus .view (now (bus .entry)))) ⌝ }
+        ≡ or-same (state-of (moved (B·Bus .view (now (bus .entry))) after write)) (state (now (processor .entry)) (B·Bus .view (now (bus .entry)))) ⌝ }
     ensures places { λ r. ⌜ B·Bus .places (now (bus .exit)) ≡ B·Bus .places (now (bus .entry)) ⌝ }
 {
     let Some(cell) = write else {
@@ -36,37 +36,6 @@ fn write_and_replace<P: Copy, B: Bus>(
     }
 }
 
-// Puts another processor in place and writes a cell, if one is to be written; answers what puts the cell back.
-pub fn replace<P: Copy, B: Bus>(
-    processor: &mut P,
-    bus: &mut B,
-    after: P,
-    write: Option<CellWrite>,
-) -> Result<Option<CellWrite>, Refusal>
-    ensures answer { λ r. ⌜ r ≡ answer (B·Bus .places (now (bus .entry))) (undo-of (moved (B·Bus .view (now (bus .entry))) after write)) ⌝ }
-    ensures state { λ r. ⌜ state (now (processor .exit)) (B·Bus .view (now (bus .exit)))
-        ≡ or-same (state-of (moved (B·Bus .view (now (bus .entry))) after write)) (state (now (processor .entry)) (B·Bus .view (now (bus .entry)))) ⌝ }
-    ensures places { λ r. ⌜ B·Bus .places (now (bus .exit)) ≡ B·Bus .places (now (bus .entry)) ⌝ }
-{
-    write_and_replace(processor, bus, after, write)
-}
-
-// The next instruction, by what the processor says comes next.
-fn take_next<P: Processor, B: Bus>(
-    processor: &mut P,
-    bus: &mut B,
-) -> Result<Option<CellWrite>, Refusal>
-    ensures answer { λ r. ⌜ r ≡ answer (B·Bus .places (now (bus .entry)))
-        (undo-of (next-moved (P·Processor .rules) (state (now (processor .entry)) (B·Bus .view (now (bus .entry)))))) ⌝ }
-    ensures state { λ r. ⌜ state (now (processor .exit)) (B·Bus .view (now (bus .exit)))
-        ≡ or-same (state-of (next-moved (P·Processor .rules) (state (now (processor .entry)) (B·Bus .view (now (bus .entry))))))
-        (state (now (processor .entry)) (B·Bus .view (now (bus .entry)))) ⌝ }
-    ensures places { λ r. ⌜ B·Bus .places (now (bus .exit)) ≡ B·Bus .places (now (bus .entry)) ⌝ }
-{
-    let next = processor.next(bus)?;
-    replace(processor, bus, next.after, next.write)
-}
-
 // The next instruction; a refused one alters nothing.
 pub fn step<P: Processor, B: Bus>(
     processor: &mut P,
@@ -79,5 +48,6 @@ pub fn step<P: Processor, B: Bus>(
         (state (now (processor .entry)) (B·Bus .view (now (bus .entry)))) ⌝ }
     ensures places { λ r. ⌜ B·Bus .places (now (bus .exit)) ≡ B·Bus .places (now (bus .entry)) ⌝ }
 {
-    take_next(processor, bus)
+    let next = processor.next(bus)?;
+    replace(processor, bus, next.after, next.write)
 }

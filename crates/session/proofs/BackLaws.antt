@@ -20,8 +20,9 @@ use Rattle.processor.specs.Rules.{State, Moved}
 use Rattle.session.specs.declared.answers.Taken.{Taken}
 use Rattle.session.specs.declared.entry.Entry.{Entry}
 use Rattle.session.specs.Snapshots.{Snapshot, told-fault}
+use Rattle.session.specs.Trials.{restored}
 use Rattle.session.specs.Runs.{noted-answer}
-use Rattle.session.specs.Backs.{newest, restored, undone, Gone, gone, takes, backs-on, told-taken}
+use Rattle.session.specs.Backs.{newest, undone, Gone, gone, takes, backs-on, told-taken}
 
 -- where slots are in use and lent, there is a last record
 last-is : {X : Type 0} (u : ℕ) (xs : List X) → 0 < u → u ≤ length xs → last-record u xs ≡ nth xs (u - 1)

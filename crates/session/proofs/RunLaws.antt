@@ -7,7 +7,8 @@ use lib.ListN.{length}
 use Rattle.std.specs.declared.result.Result.{Result}
 use Rattle.std.specs.declared.result.Result.the-variants.{Ok, Err}
 use Rattle.processor.specs.Views.{Fault, Places}
-use Rattle.processor.specs.Rules.{Rules, Moved, stepped}
+use Rattle.processor.specs.Rules.{Rules, Moved}
+use Rattle.session.specs.Trials.{tried}
 use Rattle.session.specs.declared.answers.Stop.{Stop}
 use Rattle.session.specs.declared.answers.Ran.{Ran}
 use Rattle.session.specs.declared.runs.Turn.{Turn}
@@ -27,7 +28,7 @@ cond-count false x y n h k = k
 turned-count : {P : Type 0} (r : Rules P) (d : Snapshot P) → turned r d .count ≤ d .count + 1
 turned-count r d =
     cond-count (is-halted (r .mark (d .state .processor))) d _ _ (omega arith)
-    (cond-count (ltb (d .used) (length (d .slots))) (noted (stepped r (d .state)) d) d _ (noted-count (stepped r (d .state)) d) (omega arith))
+    (cond-count (ltb (d .used) (length (d .slots))) (noted (tried r (d .state)) d) d _ (noted-count (tried r (d .state)) d) (omega arith))
 
 -- what a turn told, taken back to the course that it told
 told-goes-on : (p : Places) (x : Course) → GoesOn ≡ told-turn p x → x ≡ goes-on

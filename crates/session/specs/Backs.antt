@@ -10,18 +10,15 @@ use Rattle.std.specs.declared.result.Result.the-variants.{Ok, Err}
 use Rattle.refusal.specs.declared.Refusal.{Refusal}
 use Rattle.refusal.specs.declared.Cause.the-variants.{BackTooFar}
 use Rattle.processor.specs.Views.{Fault, Places}
-use Rattle.processor.specs.Rules.{State, Moved, moved}
+use Rattle.processor.specs.Rules.{Moved}
 use Rattle.session.specs.declared.answers.Taken.{Taken}
 use Rattle.session.specs.declared.entry.Entry.{Entry}
 use Rattle.session.specs.Snapshots.{Snapshot, Reason, rule, told-reason, told-fault}
+use Rattle.session.specs.Trials.{restored}
 
 -- the entries in use, the newest first
 abbrev pub newest : {P : Type 0} → ℕ → List (Entry P) → List (Entry P)
 newest used slots = reverse (take used slots)
-
--- what an entry puts back: the processor, and the word of the cell that was written
-abbrev pub restored : {P : Type 0} → State P → Entry P → Result (Moved P) Fault
-restored s e = moved (s .view) (e .before) (e .undo)
 
 -- an instruction that was taken back
 abbrev pub undone : {P : Type 0} → Result (Moved P) Fault → Snapshot P → Snapshot P
@@ -47,13 +44,9 @@ abbrev pub backs-on : {P : Type 0} → ℕ → ℕ → Snapshot P → Gone P
 backs-on n k d = takes (take n (newest (d .used) (d .slots))) k d
 
 -- a back of n, or why it is refused: it goes past the slots in use, or needs slots that are not lent
-abbrev pub back-of : {P : Type 0} → ℕ → Snapshot P → Result (Gone P) Reason
-back-of n d =
+abbrev pub back : {P : Type 0} → ℕ → Snapshot P → Result (Gone P) Reason
+back n d =
     cond (ltb (d .used) n || (ltb 0 n && ltb (length (d .slots)) (d .used))) (Err (rule BackTooFar)) (Ok (backs-on n 0 d))
-
--- the same, shut to proofs that need not look inside
-unfoldable pub back : {P : Type 0} → ℕ → Snapshot P → Result (Gone P) Reason
-back n d = back-of n d
 
 abbrev pub told-taken : {P : Type 0} → Places → Gone P → Taken
 told-taken p x = record { done = x .done; refusal = told-fault p (x .fault) }

@@ -1,4 +1,5 @@
 pub mod Snapshots
+pub mod Trials
 pub mod Runs
 pub mod Backs
 pub mod Looks

@@ -10,13 +10,14 @@ use Rattle.refusal.specs.declared.Cause.the-variants.{RunTooLong, CountTooHigh}
 use Rattle.processor.specs.declared.Mark.{Mark}
 use Rattle.processor.specs.declared.Mark.the-variants as mark
 use Rattle.processor.specs.Views.{Fault, Places, told}
-use Rattle.processor.specs.Rules.{Rules, State, Moved, stepped}
+use Rattle.processor.specs.Rules.{Rules, State, Moved}
 use Rattle.session.specs.declared.answers.Ran.{Ran}
 use Rattle.session.specs.declared.answers.Stop.{Stop}
 use Rattle.session.specs.declared.answers.Stop.the-variants as stop
 use Rattle.session.specs.declared.runs.Turn.{Turn}
 use Rattle.session.specs.declared.runs.Turn.the-variants as turn
 use Rattle.session.specs.Snapshots.{Snapshot, Reason, rule, told-reason}
+use Rattle.session.specs.Trials.{tried}
 
 -- the number of each stop
 abbrev pub stop-number : Stop → ℕ
@@ -71,7 +72,7 @@ by-step r (Err f) = none (refused f)
 abbrev pub course : {P : Type 0} → Rules P → Snapshot P → Course
 course r d =
     cond (is-halted (r .mark (d .state .processor))) (none halted)
-    (cond (ltb (d .used) (length (d .slots))) (by-step r (stepped r (d .state))) (none full))
+    (cond (ltb (d .used) (length (d .slots))) (by-step r (tried r (d .state))) (none full))
 
 -- an instruction that was done, with its entry in the next slot
 abbrev pub noted : {P : Type 0} → Result (Moved P) Fault → Snapshot P → Snapshot P
@@ -91,7 +92,7 @@ noted-answer p (Err f) = Err (told p f)
 abbrev pub turned : {P : Type 0} → Rules P → Snapshot P → Snapshot P
 turned r d =
     cond (is-halted (r .mark (d .state .processor))) d
-    (cond (ltb (d .used) (length (d .slots))) (noted (stepped r (d .state)) d) d)
+    (cond (ltb (d .used) (length (d .slots))) (noted (tried r (d .state)) d) d)
 
 -- a run's end: how it left the session, how many instructions it did, and why it stopped
 pub record Ended (P : Type 0) : Type 0 where
@@ -113,14 +114,10 @@ runs-on r (suc n) k d =
     ]
 
 -- a run of n, or why it is refused
-abbrev pub run-of : {P : Type 0} → Rules P → ℕ → Snapshot P → Result (Ended P) Reason
-run-of r n d =
+abbrev pub run : {P : Type 0} → Rules P → ℕ → Snapshot P → Result (Ended P) Reason
+run r n d =
     cond (ltb 1000000 n) (Err (rule RunTooLong))
     (cond (ltb 4000000000 (d .count + n)) (Err (rule CountTooHigh)) (Ok (runs-on r n 0 d)))
-
--- the same, shut to proofs that need not look inside
-unfoldable pub run : {P : Type 0} → Rules P → ℕ → Snapshot P → Result (Ended P) Reason
-run r n d = run-of r n d
 
 abbrev pub told-ran : {P : Type 0} → Places → Ended P → Ran
 told-ran p x = record { done = x .done; stop = told-stop p (x .ending) }

@@ -4,14 +4,15 @@ ghost use Prim.Native.Nat.{_<_, _≤_};
 ghost use lib.ListN.{length};
 ghost use Rattle.processor.specs.Rules.{state};
 ghost use Rattle.session.specs.Snapshots.{snapshot};
+ghost use Rattle.session.specs.Trials.{restored};
 ghost use Rattle.session.specs.Runs.{noted-answer};
-ghost use Rattle.session.specs.Backs.{restored, undone, backs-on, told-taken, back-of, back, back-answer, back-after};
+ghost use Rattle.session.specs.Backs.{undone, backs-on, told-taken, back, back-answer, back-after};
 use crate::answers::Taken;
 use crate::entry::Entry;
 use crate::state::Session;
+use crate::trial::restore;
 use processor::bus::Bus;
 use processor::bus::Processor;
-use processor::step::replace;
 use refusal::Cause;
 use refusal::Refusal;
 use shelf::Shelf;
@@ -33,7 +34,7 @@ impl<P: Processor> Session<P> {
             (snapshot (now (self .entry)) (B·Bus .view (now (bus .entry))) (now (journal .entry))) ⌝ }
         ensures places { λ r. ⌜ B·Bus .places (now (bus .exit)) ≡ B·Bus .places (now (bus .entry)) ⌝ }
     {
-        replace(&mut self.processor, bus, entry.before, entry.undo)?;
+        restore(&mut self.processor, bus, entry)?;
         let _ = self.journal.pop(journal);
         self.count -= 1;
         Ok(())
@@ -71,27 +72,6 @@ impl<P: Processor> Session<P> {
         }
     }
 
-    // The back's own checks, then the back.
-    fn checked_back<B: Bus>(
-        &mut self,
-        bus: &mut B,
-        journal: &[Entry<P>],
-        count: u32,
-    ) -> Result<Taken, Refusal>
-        ensures answer { λ r. ⌜ r ≡ back-answer (B·Bus .places (now (bus .entry)))
-            (back-of count (snapshot (now (self .entry)) (B·Bus .view (now (bus .entry))) (now (journal .entry)))) ⌝ }
-        ensures after { λ r. ⌜ snapshot (now (self .exit)) (B·Bus .view (now (bus .exit))) (now (journal .entry))
-            ≡ back-after (back-of count (snapshot (now (self .entry)) (B·Bus .view (now (bus .entry))) (now (journal .entry))))
-            (snapshot (now (self .entry)) (B·Bus .view (now (bus .entry))) (now (journal .entry))) ⌝ }
-        ensures places { λ r. ⌜ B·Bus .places (now (bus .exit)) ≡ B·Bus .places (now (bus .entry)) ⌝ }
-    {
-        let used = self.journal.len();
-        if used < count as usize || (count > 0 && journal.len() < used) {
-            return Err(Cause::BackTooFar.at(0));
-        }
-        Ok(self.back_on(bus, journal, count))
-    }
-
     // Takes the last `count` instructions back, and frees their slots.
     pub fn back<B: Bus>(
         &mut self,
@@ -106,7 +86,11 @@ impl<P: Processor> Session<P> {
             (snapshot (now (self .entry)) (B·Bus .view (now (bus .entry))) (now (journal .entry))) ⌝ }
         ensures places { λ r. ⌜ B·Bus .places (now (bus .exit)) ≡ B·Bus .places (now (bus .entry)) ⌝ }
     {
-        self.checked_back(bus, journal, count)
+        let used = self.journal.len();
+        if used < count as usize || (count > 0 && journal.len() < used) {
+            return Err(Cause::BackTooFar.at(0));
+        }
+        Ok(self.back_on(bus, journal, count))
     }
 
     // Frees all journal slots: what was done can no longer be taken back.

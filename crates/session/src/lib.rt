@@ -6,3 +6,4 @@ pub mod looks;
 pub mod opens;
 pub mod runs;
 pub mod state;
+mod trial;

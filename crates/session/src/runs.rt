@@ -3,17 +3,18 @@ ghost use mathlib.Core.Path.{_≡_};
 ghost use Prim.Native.Nat.{_<_, _≤_, _+_};
 ghost use lib.ListN.{length};
 ghost use Rattle.processor.specs.Views.{answer};
-ghost use Rattle.processor.specs.Rules.{state, stepped};
+ghost use Rattle.processor.specs.Rules.{state};
 ghost use Rattle.session.specs.Snapshots.{snapshot};
-ghost use Rattle.session.specs.Runs.{noted, noted-answer, course, told-turn, turned, runs-on, told-ran, run-of, run, run-answer, run-after};
+ghost use Rattle.session.specs.Trials.{tried};
+ghost use Rattle.session.specs.Runs.{noted, noted-answer, course, told-turn, turned, runs-on, told-ran, run, run-answer, run-after};
 use crate::answers::Ran;
 use crate::answers::Stop;
 use crate::entry::Entry;
 use crate::state::Session;
+use crate::trial::try_next;
 use processor::Mark;
 use processor::bus::Bus;
 use processor::bus::Processor;
-use processor::step::step;
 use refusal::Cause;
 use refusal::Refusal;
 
@@ -31,14 +32,14 @@ impl<P: Processor> Session<P> {
         requires room { ⌜ now self .journal .used < length (now journal) ⌝ }
         requires few { ⌜ now self .count < 4000000000 ⌝ }
         ensures answer { λ r. ⌜ r ≡ noted-answer (B·Bus .places (now (bus .entry)))
-            (stepped (P·Processor .rules) (state (now (self .entry) .processor) (B·Bus .view (now (bus .entry))))) ⌝ }
+            (tried (P·Processor .rules) (state (now (self .entry) .processor) (B·Bus .view (now (bus .entry))))) ⌝ }
         ensures after { λ r. ⌜ snapshot (now (self .exit)) (B·Bus .view (now (bus .exit))) (now (journal .exit))
-            ≡ noted (stepped (P·Processor .rules) (state (now (self .entry) .processor) (B·Bus .view (now (bus .entry)))))
+            ≡ noted (tried (P·Processor .rules) (state (now (self .entry) .processor) (B·Bus .view (now (bus .entry)))))
             (snapshot (now (self .entry)) (B·Bus .view (now (bus .entry))) (now (journal .entry))) ⌝ }
         ensures places { λ r. ⌜ B·Bus .places (now (bus .exit)) ≡ B·Bus .places (now (bus .entry)) ⌝ }
     {
         let before = self.processor;
-        let undo = step(&mut self.processor, bus)?;
+        let undo = try_next(&mut self.processor, bus)?;
         let _ = self.journal.push(journal, Entry { before, undo });
         self.count += 1;
         Ok(())
@@ -97,29 +98,6 @@ impl<P: Processor> Session<P> {
         }
     }
 
-    // The run's own checks, then the run.
-    fn checked_run<B: Bus>(
-        &mut self,
-        bus: &mut B,
-        journal: &mut [Entry<P>],
-        count: u32,
-    ) -> Result<Ran, Refusal>
-        ensures answer { λ r. ⌜ r ≡ run-answer (B·Bus .places (now (bus .entry))) (run-of (P·Processor .rules) count
-            (snapshot (now (self .entry)) (B·Bus .view (now (bus .entry))) (now (journal .entry)))) ⌝ }
-        ensures after { λ r. ⌜ snapshot (now (self .exit)) (B·Bus .view (now (bus .exit))) (now (journal .exit))
-            ≡ run-after (run-of (P·Processor .rules) count (snapshot (now (self .entry)) (B·Bus .view (now (bus .entry))) (now (journal .entry))))
-            (snapshot (now (self .entry)) (B·Bus .view (now (bus .entry))) (now (journal .entry))) ⌝ }
-        ensures places { λ r. ⌜ B·Bus .places (now (bus .exit)) ≡ B·Bus .places (now (bus .entry)) ⌝ }
-    {
-        if count > 1000000 {
-            return Err(Cause::RunTooLong.at(0));
-        }
-        if count > 4000000000 - self.count {
-            return Err(Cause::CountTooHigh.at(0));
-        }
-        Ok(self.run_on(bus, journal, count))
-    }
-
     // A run of `count` instructions, or fewer where something stops it.
     pub fn run<B: Bus>(
         &mut self,
@@ -134,6 +112,12 @@ impl<P: Processor> Session<P> {
             (snapshot (now (self .entry)) (B·Bus .view (now (bus .entry))) (now (journal .entry))) ⌝ }
         ensures places { λ r. ⌜ B·Bus .places (now (bus .exit)) ≡ B·Bus .places (now (bus .entry)) ⌝ }
     {
-        self.checked_run(bus, journal, count)
+        if count > 1000000 {
+            return Err(Cause::RunTooLong.at(0));
+        }
+        if count > 4000000000 - self.count {
+            return Err(Cause::CountTooHigh.at(0));
+        }
+        Ok(self.run_on(bus, journal, count))
     }
 }

@@ -1,3 +1,4 @@
+mod Refusing
 mod Undoing
 mod Simulates
 mod LogLaws

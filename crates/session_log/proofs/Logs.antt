@@ -21,7 +21,7 @@ use Rattle.session_log.specs.declared.line.Call.{Call}
 use Rattle.session_log.specs.declared.line.Call.the-variants.{Run, Back, Forget, Look}
 use Rattle.session_log.specs.declared.line.Line.{Line}
 use Rattle.session_log.specs.Replies.{Reply, ran, taken, forgotten, word}
-use Rattle.session_log.specs.Serving.{Served, served, served-run, served-back, serves, line-by, log-after, log-lines}
+use Rattle.session_log.specs.Serving.{Served, served, served-run, served-back, by-run, by-back, serves, line-by, log-after, log-lines}
 use Rattle.session_log.specs.Plain.{Plain, count, PlainRan, plain-run, drops, PlainServed, replied, plain-call, plain-after, plain-lines, filled}
 use Rattle.session_log.specs.Stands.{Stands, Undo, Follow}
 use Rattle.session_log.proofs.Simulates.{Tied, plain-of, RunSim, BackSim, sim-run, sim-back}
@@ -54,7 +54,7 @@ module _ {P : Type 0} (r : Rules P) (w : State P) (j : ℕ) where
   by-test d past i false false f x y h o = o refl
 
   pub sim-call : (c : Call) (d : Snapshot P) (past : List (State P)) → Tied r w j d past → CallSim (serves r c d) (plain-call r j c (plain-of d past))
-  unfolding run back
+  unfolding by-run by-back
   sim-call (Run n) d past i =
       let x = runs-on r n 0 d in
       let y = plain-run r j n 0 (plain-of d past) in

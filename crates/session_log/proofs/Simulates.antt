@@ -16,11 +16,12 @@ use Rattle.std.specs.declared.result.Result.the-variants.{Ok, Err}
 use Rattle.processor.specs.declared.Mark.{Mark}
 use Rattle.processor.specs.declared.Mark.the-variants as mark
 use Rattle.processor.specs.Views.{Fault}
-use Rattle.processor.specs.Rules.{Rules, State, Moved, stepped, state-of, instruction}
+use Rattle.processor.specs.Rules.{Rules, State, Moved, state-of, instruction}
 use Rattle.session.specs.declared.entry.Entry.{Entry}
 use Rattle.session.specs.Snapshots.{Snapshot}
+use Rattle.session.specs.Trials.{tried, restored}
 use Rattle.session.specs.Runs.{Ending, counted, halted, at-break, full, refused, is-halted, Course, goes-on, last, none, by-mark, by-step, course, noted, turned, Ended, ended, runs-on}
-use Rattle.session.specs.Backs.{newest, restored, undone, Gone, gone, takes}
+use Rattle.session.specs.Backs.{newest, undone, Gone, gone, takes}
 use Rattle.session.proofs.BackLaws.{newest-next, newest-set}
 use Rattle.session_log.specs.Plain.{Plain, push, drops, Move, onto, held, by-instruction, move, PlainRan, plain-ran, plain-run}
 use Rattle.session_log.specs.Stands.{Undo, Follow}
@@ -39,7 +40,8 @@ plain-of d past = record { last = d .state; past = past; depth = d .used }
 
 module _ {P : Type 0} (r : Rules P) (w : State P) (j : ℕ) where
   -- an instruction done and noted
-  tied-noted : (d : Snapshot P) (past : List (State P)) (m : Moved P) → Tied r w j d past → d .used < j → stepped r (d .state) ≡ Ok m → Tied r w j (noted (Ok m) d) (d .state ∷ past)
+  tied-noted : (d : Snapshot P) (past : List (State P)) (m : Moved P) → Tied r w j d past → d .used < j → tried r (d .state) ≡ Ok m → Tied r w j (noted (Ok m) d) (d .state ∷ past)
+  unfolding tried
   tied-noted d past m i h e =
       let x : Entry P = record { before = d .state .processor; undo = m .undo } in
       let s : d .used < length (d .slots) = omega (arith, i .lent) in
@@ -77,7 +79,7 @@ module _ {P : Type 0} (r : Rules P) (w : State P) (j : ℕ) where
   sim-mark n k d past m i more mark.AtBreak = (d .state ∷ past, refl, i)
   sim-mark n k d past m i more mark.Halted = (d .state ∷ past, refl, i)
 
-  sim-turn : (n k : ℕ) (d : Snapshot P) (past : List (State P)) → Tied r w j d past → ((b : Snapshot P) (vs : List (State P)) → Tied r w j b vs → RunSim (runs-on r n (k + 1) b) (plain-run r j n (k + 1) (plain-of b vs))) → (h b : Bool) → ltb (d .used) j ≡ b → (x : Result (Moved P) Fault) → stepped r (d .state) ≡ x
+  sim-turn : (n k : ℕ) (d : Snapshot P) (past : List (State P)) → Tied r w j d past → ((b : Snapshot P) (vs : List (State P)) → Tied r w j b vs → RunSim (runs-on r n (k + 1) b) (plain-run r j n (k + 1) (plain-of b vs))) → (h b : Bool) → ltb (d .used) j ≡ b → (x : Result (Moved P) Fault) → tried r (d .state) ≡ x
       → RunSim (run-by n k (cond h (none halted) (cond b (by-step r x) (none full))) (cond h d (cond b (noted x d) d))) (plain-by n k (plain-of d past) (cond h (held halted) (cond b (by-instruction (state-of x)) (held full))))
   sim-turn n k d past i more true b e x o = (past, refl, i)
   sim-turn n k d past i more false false e x o = (past, refl, i)
@@ -85,10 +87,11 @@ module _ {P : Type 0} (r : Rules P) (w : State P) (j : ℕ) where
   sim-turn n k d past i more false true e (Ok m) o = sim-mark n k d past m (tied-noted d past m i (ltb-true (d .used) j e) o) more (r .mark (m .state .processor))
 
   pub sim-run : (n k : ℕ) (d : Snapshot P) (past : List (State P)) → Tied r w j d past → RunSim (runs-on r n k d) (plain-run r j n k (plain-of d past))
+  unfolding tried
   sim-run zero k d past i = (past, refl, i)
   sim-run (suc n) k d past i =
       let h = is-halted (r .mark (d .state .processor)) in
-      let x = stepped r (d .state) in
+      let x = tried r (d .state) in
       let F : ℕ → Type 0 = λ m. RunSim (run-by n k (cond h (none halted) (cond (ltb (d .used) m) (by-step r x) (none full))) (cond h d (cond (ltb (d .used) m) (noted x d) d))) (plain-by n k (plain-of d past) (cond h (held halted) (cond (ltb (d .used) j) (by-instruction (state-of x)) (held full)))) in
       subst F (sym (i .lent)) (sim-turn n k d past i (λ b vs o. sim-run n (k + 1) b vs o) h (ltb (d .used) j) refl x refl)
 

@@ -13,9 +13,9 @@ use Rattle.processor.specs.declared.Side.the-variants.{Memory, Screen}
 use Rattle.processor.specs.declared.CellWrite.{CellWrite}
 use Rattle.processor.specs.declared.Next.{Next}
 use Rattle.processor.specs.Views.{Cell, Cells, View, view, Fault, side-of, exchange, yielded, granted, put, put-into}
-use Rattle.processor.specs.Rules.{Rules, State, state, Moved, written, with-write, moved, moved-by, stepped, state-of}
+use Rattle.processor.specs.Rules.{Rules, State, state, Moved, written, moved, moved-by, state-of}
 use Rattle.session.specs.declared.entry.Entry.{Entry}
-use Rattle.session.specs.Backs.{restored}
+use Rattle.session.specs.Trials.{tried, restored}
 
 abbrev free : ℕ → Cell
 free x = record { word = x; unlocked = true }
@@ -53,7 +53,7 @@ view-back v Screen a w x h = ap (λ (m : Cells). view (v .memory) m (v .keys)) (
 
 -- what was moved is undone by what it noted, with the processor q put back
 abbrev pub Undone : {P : Type 0} → State P → Result (Moved P) Fault → Type 0
-Undone s (Ok m) = state-of (with-write (m .state .view) (s .processor) (m .undo)) ≡ Ok s
+Undone s (Ok m) = state-of (moved (m .state .view) (s .processor) (m .undo)) ≡ Ok s
 Undone s (Err f) = Unit {0}
 
 module _ {P : Type 0} (s : State P) where
@@ -67,20 +67,19 @@ module _ {P : Type 0} (s : State P) where
       ap (λ (o : Result ℕ Fault). state-of (written o u (s .processor) v)) (exchange-again (s .view) (c .side) (c .at) (c .word))
       ∙ ap f (view-back (s .view) (c .side) (c .at) (c .word) x q)
 
-  undone-with : (p : P) (c : Option CellWrite) → Undone s (with-write (s .view) p c)
+  undone-with : (p : P) (c : Option CellWrite) → Undone s (moved (s .view) p c)
   undone-with p None = refl
   undone-with p (Some c) = undone-written p c (exchange (s .view) (c .side) (c .at)) refl
 
   undone-next : (n : Result (Next P) Fault) → Undone s (moved-by (s .view) n)
-  unfolding moved
   undone-next (Ok n) = undone-with (n .after) (n .write)
   undone-next (Err f) = tt
 
-  undone-stepped : (r : Rules P) → Undone s (stepped r s)
-  unfolding stepped
-  undone-stepped r = undone-next (r .next (s .processor) (s .view))
+  undone-tried : (r : Rules P) → Undone s (tried r s)
+  unfolding tried
+  undone-tried r = undone-next (r .next (s .processor) (s .view))
 
 -- an instruction's entry leads back to the state before it
-pub entry-undoes : {P : Type 0} (r : Rules P) (s : State P) (m : Moved P) → stepped r s ≡ Ok m → state-of (restored (m .state) (record { before = s .processor; undo = m .undo })) ≡ Ok s
-unfolding moved
-entry-undoes {P} r s m e = subst (λ (o : Result (Moved P) Fault). Undone s o) e (undone-stepped s r)
+pub entry-undoes : {P : Type 0} (r : Rules P) (s : State P) (m : Moved P) → tried r s ≡ Ok m → state-of (restored (m .state) (record { before = s .processor; undo = m .undo })) ≡ Ok s
+unfolding restored
+entry-undoes {P} r s m e = subst (λ (o : Result (Moved P) Fault). Undone s o) e (undone-tried s r)

@@ -33,9 +33,16 @@ abbrev pub word-reply : Result ℕ Reason → Result Reply Reason
 word-reply (Ok w) = Ok (word w)
 word-reply (Err e) = Err e
 
+-- a run and a back, shut to proofs that need not look inside
+unfoldable pub by-run : {P : Type 0} → Rules P → ℕ → Snapshot P → Served P
+by-run r n d = served-run (run r n d) d
+
+unfoldable pub by-back : {P : Type 0} → ℕ → Snapshot P → Served P
+by-back n d = served-back (back n d) d
+
 abbrev pub serves : {P : Type 0} → Rules P → Call → Snapshot P → Served P
-serves r (Run n) d = served-run (run r n d) d
-serves r (Back n) d = served-back (back n d) d
+serves r (Run n) d = by-run r n d
+serves r (Back n) d = by-back n d
 serves r Forget d = served (freed d) (Ok forgotten)
 serves r (Look s) d = served d (word-reply (looked r s (d .state)))
 

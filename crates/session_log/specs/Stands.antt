@@ -6,7 +6,8 @@ use Rattle.std.specs.declared.result.Result.the-variants.{Ok, Err}
 use Rattle.processor.specs.Rules.{Rules, State, instruction, state-of}
 use Rattle.session.specs.declared.entry.Entry.{Entry}
 use Rattle.session.specs.Snapshots.{Snapshot}
-use Rattle.session.specs.Backs.{newest, restored}
+use Rattle.session.specs.Backs.{newest}
+use Rattle.session.specs.Trials.{restored}
 use Rattle.session_log.specs.Plain.{Plain, count}
 
 -- the entries, the newest first, lead back from a state to those before it

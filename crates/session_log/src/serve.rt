@@ -7,7 +7,7 @@ ghost use Rattle.session_log.specs.Plain.{Plain};
 ghost use Rattle.session_log.specs.Stands.{Stands};
 ghost use Rattle.session_log.specs.Logs.{Answered};
 ghost use Rattle.session_log.specs.Replies.{told-line};
-ghost use Rattle.session_log.specs.Serving.{serves, line-by};
+ghost use Rattle.session_log.specs.Serving.{by-run, by-back, serves, line-by};
 use crate::line::Answer;
 use crate::line::Call;
 use crate::line::Line;
@@ -16,6 +16,44 @@ use processor::bus::Processor;
 use refusal::Refusal;
 use session::entry::Entry;
 use session::state::Session;
+
+// A run.
+fn run_call<P: Processor, B: Bus>(
+    session: &mut Session<P>,
+    bus: &mut B,
+    journal: &mut [Entry<P>],
+    count: u32,
+) -> Result<Answer, Refusal>
+    ensures answer { λ r. ⌜ r ≡ told-line (B·Bus .places (now (bus .entry)))
+        (by-run (P·Processor .rules) count (snapshot (now (session .entry)) (B·Bus .view (now (bus .entry))) (now (journal .entry))) .reply) ⌝ }
+    ensures after { λ r. ⌜ snapshot (now (session .exit)) (B·Bus .view (now (bus .exit))) (now (journal .exit))
+        ≡ by-run (P·Processor .rules) count (snapshot (now (session .entry)) (B·Bus .view (now (bus .entry))) (now (journal .entry))) .after ⌝ }
+    ensures places { λ r. ⌜ B·Bus .places (now (bus .exit)) ≡ B·Bus .places (now (bus .entry)) ⌝ }
+{
+    match session.run(bus, journal, count) {
+        Ok(ran) => Ok(Answer::Ran(ran)),
+        Err(refusal) => Err(refusal),
+    }
+}
+
+// A back.
+fn back_call<P: Processor, B: Bus>(
+    session: &mut Session<P>,
+    bus: &mut B,
+    journal: &[Entry<P>],
+    count: u32,
+) -> Result<Answer, Refusal>
+    ensures answer { λ r. ⌜ r ≡ told-line (B·Bus .places (now (bus .entry)))
+        (by-back count (snapshot (now (session .entry)) (B·Bus .view (now (bus .entry))) (now (journal .entry))) .reply) ⌝ }
+    ensures after { λ r. ⌜ snapshot (now (session .exit)) (B·Bus .view (now (bus .exit))) (now (journal .entry))
+        ≡ by-back count (snapshot (now (session .entry)) (B·Bus .view (now (bus .entry))) (now (journal .entry))) .after ⌝ }
+    ensures places { λ r. ⌜ B·Bus .places (now (bus .exit)) ≡ B·Bus .places (now (bus .entry)) ⌝ }
+{
+    match session.back(bus, journal, count) {
+        Ok(taken) => Ok(Answer::Taken(taken)),
+        Err(refusal) => Err(refusal),
+    }
+}
 
 // The session's own call.
 fn dispatch<P: Processor, B: Bus>(
@@ -31,14 +69,8 @@ fn dispatch<P: Processor, B: Bus>(
     ensures places { λ r. ⌜ B·Bus .places (now (bus .exit)) ≡ B·Bus .places (now (bus .entry)) ⌝ }
 {
     match call {
-        Call::Run(count) => match session.run(bus, journal, count) {
-            Ok(ran) => Ok(Answer::Ran(ran)),
-            Err(refusal) => Err(refusal),
-        },
-        Call::Back(count) => match session.back(bus, journal, count) {
-            Ok(taken) => Ok(Answer::Taken(taken)),
-            Err(refusal) => Err(refusal),
-        },
+        Call::Run(count) => run_call(session, bus, journal, count),
+        Call::Back(count) => back_call(session, bus, journal, count),
         Call::Forget => {
             session.forget();
             Ok(Answer::Forgotten)

@@ -23,9 +23,10 @@ returns g c =
     let tape = a .tape .now in
     let e = c .replay-first .ensures in
     let f = c .replay-second .ensures in
-    record
-      { agreed = λ h.
+    record {
+      agreed = λ h.
           let s = seen-alike x y h in
           agreed R p q (seen x) (seen y) tape (opening R (a .stack) (seen x) tape) (opening R (a .stack) (seen y) tape) (length (a .journal .now)) (length (a .other .now)) (a .lines .now) (a .rows .now)
           (left (c .replay-first .result) x′ (l .journal) (l .lines)) (left (c .replay-second .result) y′ (m .journal) (m .lines)) s (ap (λ (v : View). opening R (a .stack) v tape) s)
-          (c .replay-first .result) (c .replay-second .result) (e .opened) (f .opened) (e .log) (f .log) }
+          (c .replay-first .result) (c .replay-second .result) (e .opened) (f .opened) (e .log) (f .log);
+    }
