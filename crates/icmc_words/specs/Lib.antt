@@ -1,0 +1,5 @@
+pub mod Tables
+pub mod Conditions
+pub mod Sizes
+pub mod Decoded
+pub mod Encoded
