@@ -1,0 +1,3 @@
+pub mod Assigned
+pub mod Spare
+pub mod Laws
