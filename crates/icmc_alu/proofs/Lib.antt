@@ -1,0 +1,3 @@
+pub mod FlagBits
+pub mod FlagLaws
+mod Meets
