@@ -1,0 +1,4 @@
+pub mod Machines
+pub mod Calculations
+pub mod Steps
+pub mod Examples

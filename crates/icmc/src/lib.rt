@@ -1,0 +1,6 @@
+// The ICMC machine.
+mod calculate;
+pub mod examples;
+pub mod machine;
+mod perform;
+pub mod rules;
