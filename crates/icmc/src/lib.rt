@@ -1,4 +1,6 @@
 // The ICMC machine.
+#![tactic(auto)]
+
 mod calculate;
 pub mod examples;
 pub mod machine;

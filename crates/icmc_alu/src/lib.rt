@@ -1,4 +1,6 @@
 // Arithmetic, logic, shifts, flags and conditions of the processor. The flags are the bits of one word, FR.
+#![tactic(auto)]
+
 pub mod arithmetic;
 pub mod comparison;
 pub mod conditions;

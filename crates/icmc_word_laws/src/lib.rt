@@ -1,5 +1,7 @@
 // What holds of decoding and encoding taken together. Each public call stands on a private one that says what the code does;
 // the law is between the two: a private function without a body states it, and a call of that does nothing.
+#![tactic(auto)]
+
 ghost use Rattle.std.specs.Prelude.{◌≡◌, is_ok};
 ghost use Rattle.icmc_words.specs.Decoded.{decoded};
 ghost use Rattle.icmc_words.specs.Encoded.{encoded};

@@ -1,4 +1,6 @@
 // The instruction words of the processor: what each word means, and the word of each instruction.
+#![tactic(auto)]
+
 pub mod decode;
 pub mod encode;
 pub mod instruction;

@@ -1,4 +1,6 @@
 // What the lines of a page say.
+#![tactic(auto)]
+
 mod form;
 pub mod line;
 mod operand;

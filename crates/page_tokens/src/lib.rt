@@ -1,4 +1,6 @@
 // The lines of a page, and the tokens of a line.
+#![tactic(auto)]
+
 mod class;
 pub mod label;
 pub mod line;

@@ -1,4 +1,6 @@
 // Pages: names gathered, words placed.
+#![tactic(auto)]
+
 mod check;
 pub mod gathering;
 pub mod label;

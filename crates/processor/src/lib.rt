@@ -1,4 +1,6 @@
 // What stands between a session and a processor.
+#![tactic(auto)]
+
 pub mod bus;
 pub mod devices;
 pub mod step;

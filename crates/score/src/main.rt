@@ -1,4 +1,6 @@
 // Reads a page from standard input.
+#![tactic(auto)]
+
 use std::io;
 use std::io::Read;
 

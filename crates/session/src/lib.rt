@@ -1,4 +1,6 @@
 // Sessions that can be taken back, over any processor and any stores.
+#![tactic(auto)]
+
 pub mod answers;
 pub mod backs;
 pub mod entry;

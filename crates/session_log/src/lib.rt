@@ -1,4 +1,6 @@
 // Whole logs of sessions, and what they keep to.
+#![tactic(auto)]
+
 pub mod line;
 pub mod log;
 pub mod pair;

@@ -1,4 +1,6 @@
 // Records of any kind in lent slots, the last pushed being the first popped.
+#![tactic(auto)]
+
 ghost use Rattle.std.specs.Prelude.{◌≡◌, ◌+◌, ◌<◌, [], ◌∷◌, ◌++◌, length, take, drop, slice_set};
 ghost use Rattle.std.specs.List.{slice_get};
 ghost use Rattle.shelf.specs.Slots.{records, has_room, slots_pushed, used_pushed, records_pushed, has_last, last_record, used_popped};

@@ -1,4 +1,6 @@
 // Reads, probes and writes of each store, and of piles of them, one to a line.
+#![tactic(auto)]
+
 mod nowhere;
 
 use nowhere::Nowhere;

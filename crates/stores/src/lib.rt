@@ -1,4 +1,6 @@
 // Stores of words: what memory, screen and keys are made of.
+#![tactic(auto)]
+
 ghost use Rattle.std.specs.Prelude.{◌≡◌};
 ghost use Rattle.stores.specs.Cells.{Cells, Locks, Places, reads, writes, written};
 

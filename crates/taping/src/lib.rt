@@ -1,4 +1,6 @@
 // Taping: a placed program, written as a tape.
+#![tactic(auto)]
+
 ghost use Rattle.std.specs.Prelude.{◌≡◌, ◌+◌, ◌<◌, ◌≤◌, [], ◌∷◌, ◌++◌, length, take, drop, IfOk};
 ghost use Rattle.taping.specs.Tapes.{checksum, tape_of, tape_fault, tape_answer, tape_after, HoldsProgram};
 
