@@ -14,5 +14,5 @@ returns c =
       size = omega (arith, c.len.ensures, none, p.size, q.size, r.size);
       tape = written ws tape _ _ _ _ _ _ _ _ none p.size q.size r.size p.words p.rest q.words q.rest r.words r.rest c.add_up.ensures;
       holds = held ws tape _ _ _ _ _ _ _ _ none p.size q.size r.size p.words p.rest q.words q.rest r.words r.rest c.add_up.ensures
-          _ c.len.ensures (λ i. (c.type-inv.words i).fits);
+          _ c.len.ensures (λ i. (c.type_inv.words i).fits);
     }

@@ -9,7 +9,7 @@ pub loop-line-preserved : goal.loop-line-preserved
 loop-line-preserved c =
     let l = c.loop-line in
     let line = c.in-Some.ensures in
-    let e = c.in-Some-check-line.ensures in
+    let e = c.in-Some-check_line.ensures in
     let w = l.invariant.0 in (
       (w.0 + 1, check_more c.args.slots.now _ _ _ _ w.0 _ w.1 _ _ _ line.lines e.held),
       e.within.0,
@@ -27,4 +27,4 @@ pub returns : goal.returns
 returns c =
     let l = c.loop-line in
     let w = l.invariant.0 in
-    check_all c.args.slots.now _ _ _ _ w.0 _ w.1 c.in-default.ensures.lines l.invariant.1
+    check_all c.args.slots.now _ _ _ _ w.0 _ w.1 c.in_default.ensures.lines l.invariant.1

@@ -29,7 +29,7 @@ returns-in-Err c =
 pub returns : goal.returns
 returns c =
     let l = c.loop-line in
-    let all = gathers_all _ _ _ _ _ _ l.invariant.0 c.in-default.ensures.lines in
+    let all = gathers_all _ _ _ _ _ _ l.invariant.0 c.in_default.ensures.lines in
     record {
       answer = rw c.len.ensures (all_answered l.slots c.args.slots.now _ _ _ l.invariant.1 l.invariant.2 all);
       slots = all_kept l.slots c.args.slots.now _ _ _ l.invariant.1 l.invariant.2 all;

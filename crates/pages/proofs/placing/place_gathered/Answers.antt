@@ -5,13 +5,13 @@ use Rattle.pages.specs.Program.{place_answer}
 use Rattle.pages.proofs.FoundLaws.{found_all, not_found, found_short, found_on, found_places, found_full}
 use Rattle.pages.proofs.placing.place_gathered.Goals as goal
 
-pub slice-bounds-place-lines-end : goal.slice-bounds-place-lines-end
-slice-bounds-place-lines-end c =
+pub slice_bounds-place_lines-end : goal.slice_bounds-place_lines-end
+slice_bounds-place_lines-end c =
     let a = c.args in
     (found_all a.slots.now (gathering a.text.now (length a.slots.now)) _ c.in-Some.ensures).within
 
-pub place-lines-requires : goal.place-lines-requires
-place-lines-requires c =
+pub place_lines-requires : goal.place_lines-requires
+place_lines-requires c =
     let a = c.args in
     let n = length a.words.now in
     let f = found_all a.slots.now (gathering a.text.now (length a.slots.now)) _ c.in-Some.ensures in
@@ -20,10 +20,10 @@ place-lines-requires c =
       gathered = rw sub-zero (found_on a.text.now a.slots.now _ n f c.if-words-found.false);
     }
 
-pub returns-in-default : goal.returns-in-default
-returns-in-default c =
+pub returns-in_default : goal.returns-in_default
+returns-in_default c =
     let a = c.args in
-    let none = not_found a.text.now a.slots.now (length a.words.now) (gathering a.text.now (length a.slots.now)) c.in-default.ensures in
+    let none = not_found a.text.now a.slots.now (length a.words.now) (gathering a.text.now (length a.slots.now)) c.in_default.ensures in
     record { answer = ap Err c.at.ensures ∙ ap place_answer (sym none); words = tt }
 
 pub returns-then-words-found : goal.returns-then-words-found

@@ -6,8 +6,8 @@ use Rattle.pages.proofs.OnLaws.{line_fits, gathered_on, at_within}
 use Rattle.pages.proofs.PlaceLaws.{places_more, places_refused, places_all, placed_answered, placed_kept}
 use Rattle.pages.proofs.placing.place_lines.Goals as goal
 
-pub place-line-requires : goal.place-line-requires
-place-line-requires c =
+pub place_line-requires : goal.place_line-requires
+place_line-requires c =
     let l = c.loop-line in
     let words = length c.args.words.now in
     let on = l.invariant.1 in
@@ -44,7 +44,7 @@ returns c =
     let l = c.loop-line in
     let at = at_within _ _ _ _ _ _ l.invariant.1 in
     let within : l.program.used ≤ length l.words = rw l.auto.words at in
-    let all = places_all _ _ _ _ _ _ l.invariant.0 c.in-default.ensures.lines in
+    let all = places_all _ _ _ _ _ _ l.invariant.0 c.in_default.ensures.lines in
     record {
       answer = rw c.len.ensures (placed_answered l.words c.args.words.now l.program.used _ within l.invariant.2 all);
       words = placed_kept l.words c.args.words.now l.program.used _ within l.invariant.2 all;

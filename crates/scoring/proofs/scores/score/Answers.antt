@@ -6,13 +6,13 @@ use Rattle.scoring.specs.Scores.{score_answer, view_scored}
 use Rattle.scoring.proofs.OpenLaws.{tape_made, page_ran}
 use Rattle.scoring.proofs.scores.score.Goals as goal
 
-pub slice-bounds-run-out-end : goal.slice-bounds-run-out-end
-slice-bounds-run-out-end g c = let e = c.in-ok-size.ensures in (tape_made _ _ _ _ e.answer e.tape).1
+pub slice_bounds-run_out-end : goal.slice_bounds-run_out-end
+slice_bounds-run_out-end g c = let e = c.in_ok-size.ensures in (tape_made _ _ _ _ e.answer e.tape).1
 
 pub returns : goal.returns
 returns g c =
     let a = c.args in
-    let e = c.in-ok-size.ensures in
+    let e = c.in_ok-size.ensures in
     let run = c.run_out.ensures in
     let p = g.B.Bus.places a.bus.now in
     let v = g.B.Bus.view a.bus.now in

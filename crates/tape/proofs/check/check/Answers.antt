@@ -8,7 +8,7 @@ pub loop-i-preserved : goal.loop-i-preserved
 loop-i-preserved c =
     let l = c.loop-i in
     check_more c.args.tape.now l.i l.cursor.place l.sum l.invariant c.of-item.result _ _
-    c.of-item.ensures c.loop-i-test.true c.in-default.ensures c.follow.ensures.after c.add-sum.ensures
+    c.of-item.ensures c.loop-i-test.true c.in_default.ensures c.follow.ensures.after c.add-sum.ensures
 
 pub returns-in-Some : goal.returns-in-Some
 returns-in-Some c =

@@ -30,8 +30,8 @@ returns-in-Err g c =
     let x = stops_back _ _ d b _ _ _ _ l.invariant.1 c.loop-done-test.true l.invariant.2 (l.invariant.3 z) c.in-Some.ensures l.invariant.0 e.after _ e.answer in
     record { answer = x.0; after = x.1; places = e.places ∙ l.invariant.1 }
 
-pub returns-in-default : goal.returns-in-default
-returns-in-default g c =
+pub returns-in_default : goal.returns-in_default
+returns-in_default g c =
     let l = c.loop-done in
     let z : 0 < c.args.count = omega arith in
-    absurd (never_none (snapshot l.self (g.B.Bus.view l.bus) c.args.journal.now) (omega arith) (l.invariant.3 z) c.in-default.ensures)
+    absurd (never_none (snapshot l.self (g.B.Bus.view l.bus) c.args.journal.now) (omega arith) (l.invariant.3 z) c.in_default.ensures)
