@@ -1,4 +1,4 @@
-use Rattle.std.specs.Prelude.{ℕ, ◌%◌, true, false}
+use Rattle.std.specs.Prelude.{ℕ, ◌%◌, false}
 use Rattle.icmc_words.specs.declared.instruction.Instruction.{Instruction}
 use Rattle.icmc_words.specs.declared.instruction.Instruction.TheVariants.{Nop, Rts, Breakp, Halt, Clearc, Setc, Jump, Call, Push, PushFr, Pop, PopFr, Shift, And, Or, Xor, Not, Cmp, Add, Addc, Sub, Subc, Mul, Mulc, Div, Divc, Mod, Inc, Dec, Load, Store, Loadn, Loadi, Storei, Mov, MovFromSp, MovToSp, Outchar, Inchar}
 use Rattle.icmc_alu.specs.declared.arithmetic.Arithmetic.TheVariants as arithmetic

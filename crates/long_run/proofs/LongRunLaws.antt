@@ -1,4 +1,4 @@
-use Rattle.std.proofs.Common.{◌≡◌, ℕ, ◌+◌, ◌<◌, ◌≤◌, Bool, true, false, cond, ltb, length, Ok, sym, refl, ap, ◌∙◌, subst, arith}
+use Rattle.std.proofs.Common.{◌≡◌, ℕ, Bool, true, false, cond, ltb, Ok, refl, subst, arith}
 use Rattle.std.proofs.lemmas.Bool.{ltb-true, ltb-false}
 use Rattle.processor.specs.Views.{Places}
 use Rattle.processor.specs.Rules.{Rules, State}
@@ -9,7 +9,7 @@ use Rattle.session_log.specs.Kept.{Ends}
 use Rattle.session_log.proofs.Keeps.{follow_after, far, follow_run, ends}
 use Rattle.icmc.specs.declared.machine.Machine.{Machine}
 use Rattle.icmc.specs.Steps.{machine_rules}
-use Rattle.long_run.specs.Rounds.{Turned, rounds}
+use Rattle.long_run.specs.Rounds.{rounds}
 use Rattle.long_run.specs.LongRuns.{room, long_run, reported, RanOut}
 use Rattle.long_run.proofs.OneRun.{Whole, rounds_run, short_run}
 

@@ -1,14 +1,11 @@
-use Rattle.std.proofs.Common.{◌≡◌, ℕ, zero, suc, ◌+◌, ◌-◌, ◌*◌, ◌<◌, ◌≤◌, Bool, true, false, cond, ltb, Ok, Err, Result, sym, refl, ap, ◌∙◌, subst, add-zero, suc-mul, zero-mul, arith}
+use Rattle.std.proofs.Common.{◌≡◌, ℕ, zero, suc, ◌+◌, ◌-◌, ◌*◌, ◌<◌, ◌≤◌, Bool, true, false, cond, ltb, Ok, Err, sym, refl, ap, ◌∙◌, subst, add-zero, suc-mul, zero-mul, arith}
 use Rattle.std.proofs.lemmas.Bool.{le-ltb}
-use Rattle.refusal.specs.declared.Refusal.{Refusal}
 use Rattle.refusal.specs.declared.Cause.TheVariants.{RunTooLong, CountTooHigh}
-use Rattle.processor.specs.Views.{Fault, Places}
+use Rattle.processor.specs.Views.{Places}
 use Rattle.processor.specs.Rules.{Rules, State}
-use Rattle.session.specs.declared.answers.Stop.{Stop}
 use Rattle.session.specs.declared.answers.Stop.TheVariants as stop
 use Rattle.session.specs.Snapshots.{Snapshot, rule}
 use Rattle.session.specs.Runs.{Ending, counted, halted, at_break, full, refused, told_stop}
-use Rattle.session_log.specs.declared.line.Answer.{Answer}
 use Rattle.session_log.specs.declared.line.Call.TheVariants.{Run, Forget}
 use Rattle.session_log.specs.Replies.{ran, told_line}
 use Rattle.session_log.specs.Serving.{serves}
@@ -16,7 +13,7 @@ use Rattle.session_log.specs.Plain.{Plain, count, fresh, PlainRan, plain_ran, pl
 use Rattle.session_log.specs.Stands.{Stands}
 use Rattle.session_log.proofs.Stood.{answered}
 use Rattle.long_run.specs.Rounds.{stop_of, Turned, one_round, goes_on, rounds}
-use Rattle.long_run.proofs.PlainRuns.{then_on, more, Tally, tally, deeper, deeper_ran, deep}
+use Rattle.long_run.proofs.PlainRuns.{then_on, more, tally, deeper, deeper_ran, deep}
 use Rattle.long_run.proofs.RoundLaws.{rounds_none, by_round}
 
 module _ {P : Type 0} (r : Rules P) (p : Places) (w : State P) (j m : ℕ) (small : m ≤ 1000000) where

@@ -1,4 +1,4 @@
-use Rattle.std.proofs.Common.{◌≡◌, ℕ, Some, Ok, Err, Option, Result, refl, ap, arith}
+use Rattle.std.proofs.Common.{◌≡◌, ℕ, Some, Ok, Err, Option, Result, ap, arith}
 use Rattle.refusal.specs.declared.Refusal.{Refusal}
 use Rattle.processor.specs.declared.CellWrite.{CellWrite}
 use Rattle.processor.specs.Views.{View, Fault, Places, answer, told, exchange}

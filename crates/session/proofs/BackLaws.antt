@@ -1,4 +1,4 @@
-use Rattle.std.proofs.Common.{◌≡◌, ℕ, zero, suc, ◌+◌, ◌-◌, ◌<◌, ◌≤◌, Bool, true, false, cond, ◌&&◌, ltb, leb, List, [], ◌∷◌, ◌++◌, reverse, length, get_or, take, set, Some, None, Ok, Err, Option, Result, sym, refl, ap, ◌∙◌, arith, take-suc, take-suc-set}
+use Rattle.std.proofs.Common.{◌≡◌, ℕ, suc, ◌+◌, ◌-◌, ◌<◌, ◌≤◌, Bool, true, cond, ltb, leb, List, [], ◌∷◌, reverse, length, get_or, take, set, Some, None, Ok, Err, Result, sym, refl, ap, ◌∙◌, arith, take-suc, take-suc-set}
 use mathlib.Core.List.{reverse-append}
 use Rattle.std.specs.List.{slice_get}
 use Rattle.std.proofs.lemmas.Option.{slice_get-get_or}
@@ -6,10 +6,10 @@ use Rattle.std.proofs.lemmas.Bool.{lt-ltb, le-leb, and_from}
 use Rattle.refusal.specs.declared.Refusal.{Refusal}
 use Rattle.shelf.specs.Slots.{has_last, last_record}
 use Rattle.processor.specs.Views.{Fault, Places, told}
-use Rattle.processor.specs.Rules.{State, Moved}
+use Rattle.processor.specs.Rules.{Moved}
 use Rattle.session.specs.declared.answers.Taken.{Taken}
 use Rattle.session.specs.declared.entry.Entry.{Entry}
-use Rattle.session.specs.Snapshots.{Snapshot, told_fault}
+use Rattle.session.specs.Snapshots.{Snapshot}
 use Rattle.session.specs.Trials.{restored}
 use Rattle.session.specs.Runs.{noted_answer}
 use Rattle.session.specs.Backs.{newest, undone, Gone, gone, takes, backs_on, told_taken}

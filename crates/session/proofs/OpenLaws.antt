@@ -2,7 +2,7 @@ use Rattle.std.proofs.Common.{◌≡◌, ℕ, ◌+◌, ◌<◌, ◌≤◌, Bool,
 use Rattle.std.proofs.lemmas.List.{at_drop_more, at_drop_all}
 use Rattle.refusal.specs.declared.Refusal.{Refusal}
 use Rattle.processor.specs.declared.Side.TheVariants.{Memory}
-use Rattle.processor.specs.Views.{Cell, Cells, View, Fault, Places, answer, told, probe, probed, exchange, yielded, granted, exchanged, put, put_if, put_into}
+use Rattle.processor.specs.Views.{Cell, View, Fault, Places, answer, probe, probed, exchange, yielded, put_if, put_into}
 use Rattle.tape.specs.declared.cursor.CellWord.{CellWord}
 use Rattle.tape.specs.Items.{item}
 use Rattle.tape.specs.Puts.{puts, puts_from, put_by, place_after, with_put}

@@ -1,10 +1,8 @@
-use Rattle.std.proofs.Common.{◌≡◌, ℕ, zero, suc, ◌+◌, ◌-◌, ◌<◌, ◌≤◌, Bool, true, false, cond, ltb, length, Ok, Err, Result, sym, refl, ap, ◌∙◌, arith}
+use Rattle.std.proofs.Common.{◌≡◌, ℕ, suc, ◌+◌, ◌-◌, ◌<◌, ◌≤◌, Bool, true, false, cond, ltb, length, Ok, Err, Result, sym, refl, ap, ◌∙◌, arith}
 use Rattle.processor.specs.Views.{Fault, Places}
 use Rattle.processor.specs.Rules.{Rules, Moved}
 use Rattle.session.specs.Trials.{tried}
 use Rattle.session.specs.declared.answers.Stop.{Stop}
-use Rattle.session.specs.declared.answers.Ran.{Ran}
-use Rattle.session.specs.declared.runs.Turn.{Turn}
 use Rattle.session.specs.declared.runs.Turn.TheVariants.{GoesOn, Last, None}
 use Rattle.session.specs.Snapshots.{Snapshot}
 use Rattle.session.specs.Runs.{Course, goes_on, last, none, Ending, told_turn, told_stop, told_ran, course, turned, noted, runs_on, Ended, ended, is_halted}

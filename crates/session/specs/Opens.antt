@@ -2,7 +2,7 @@ use Rattle.std.specs.Prelude.{ℕ, List, [], ◌∷◌, Some, None, Ok, Err, Opt
 use Rattle.refusal.specs.declared.Refusal.{Refusal}
 use Rattle.processor.specs.declared.Side.TheVariants.{Memory}
 use Rattle.processor.specs.Views.{View, Fault, Places, told, probe, exchanged, put_into}
-use Rattle.processor.specs.Rules.{Rules, State, state}
+use Rattle.processor.specs.Rules.{Rules}
 use Rattle.tape.specs.declared.cursor.CellWord.{CellWord}
 use Rattle.tape.specs.Checks.{checked}
 use Rattle.tape.specs.Puts.{puts}

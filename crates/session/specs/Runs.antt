@@ -1,10 +1,10 @@
-use Rattle.std.specs.Prelude.{ℕ, zero, suc, ◌+◌, Bool, true, false, cond, List, length, Ok, Err, Result, nat_lt, slice_set}
+use Rattle.std.specs.Prelude.{ℕ, zero, suc, ◌+◌, Bool, true, false, cond, length, Ok, Err, Result, nat_lt, slice_set}
 use Rattle.refusal.specs.declared.Refusal.{Refusal}
 use Rattle.refusal.specs.declared.Cause.TheVariants.{RunTooLong, CountTooHigh}
 use Rattle.processor.specs.declared.Mark.{Mark}
 use Rattle.processor.specs.declared.Mark.TheVariants as mark
 use Rattle.processor.specs.Views.{Fault, Places, told}
-use Rattle.processor.specs.Rules.{Rules, State, Moved}
+use Rattle.processor.specs.Rules.{Rules, Moved}
 use Rattle.session.specs.declared.answers.Ran.{Ran}
 use Rattle.session.specs.declared.answers.Stop.{Stop}
 use Rattle.session.specs.declared.answers.Stop.TheVariants as stop

@@ -1,22 +1,21 @@
-use Rattle.std.proofs.Common.{◌≡◌, ℕ, zero, suc, ◌<◌, Bool, true, false, cond, ltb, List, [], ◌∷◌, length, get_or, IfOk, Some, None, Ok, Err, Option, Result, sym, refl, ap, ◌∙◌, subst, arith}
+use Rattle.std.proofs.Common.{◌≡◌, ℕ, zero, suc, ◌<◌, Bool, true, false, cond, ltb, List, [], ◌∷◌, length, get_or, IfOk, None, Ok, Err, Option, Result, sym, refl, ap, ◌∙◌, subst, arith}
 use mathlib.Core.Path.{fun_ext}
 use Rattle.std.proofs.lemmas.Bool.{ltb-true}
 use Rattle.refusal.specs.declared.Refusal.{Refusal}
 use Rattle.stores.specs.Cells as store
 use Rattle.processor.specs.declared.Side.TheVariants.{Memory, Screen}
-use Rattle.processor.specs.Views.{Cell, Cells, View, view, Fault, absent, closed, unassigned, Places, told, cell, cells, keys}
+use Rattle.processor.specs.Views.{Cells, View, view, Fault, absent, closed, unassigned, Places, told, cell, cells, keys}
 use Rattle.processor.specs.Rules.{Rules, State, state}
 use Rattle.tape.specs.declared.cursor.CellWord.{CellWord}
 use Rattle.tape.specs.Checks.{checked}
 use Rattle.tape.specs.Puts.{puts}
-use Rattle.session.specs.declared.entry.Entry.{Entry}
 use Rattle.session.specs.declared.state.Session.{Session}
 use Rattle.session.specs.Snapshots.{Snapshot, snapshot}
 use Rattle.session.specs.Opens.{probe_all, probes_told, tape_told, loaded, load_answer}
 use Rattle.session_log.specs.declared.line.Line.{Line}
 use Rattle.session_log.specs.Plain.{fresh, after}
 use Rattle.session_log.specs.Kept.{depth_after, PageLine, LogKept}
-use Rattle.session_log.specs.Logs.{Logged, opening, opening_answer}
+use Rattle.session_log.specs.Logs.{Logged, opening_answer}
 use Rattle.session_log.specs.Alike.{AlikeCells, AlikeKeys, Alike, Stores, seen, SameState, Agree, Left, Agreed}
 
 cond_same : {X : Type 0} (b : Bool) (x y z : X) → (b ≡ true → x ≡ y) → cond b x z ≡ cond b y z

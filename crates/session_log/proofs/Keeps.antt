@@ -1,18 +1,11 @@
-use Rattle.std.proofs.Common.{◌≡◌, ℕ, zero, suc, ◌+◌, ◌-◌, ◌<◌, ◌≤◌, Bool, true, false, cond, eqb, ltb, List, [], ◌∷◌, length, Some, None, Ok, Err, Option, Result, sym, refl, ap, ◌∙◌, subst, add-zero, add-suc, zero-add, arith}
-use Rattle.std.proofs.lemmas.Bool.{ltb-true, ltb-false, ne_eqb}
-use Rattle.refusal.specs.declared.Refusal.{Refusal}
+use Rattle.std.proofs.Common.{◌≡◌, ℕ, zero, suc, ◌+◌, ◌<◌, ◌≤◌, Bool, true, false, cond, eqb, ltb, List, [], ◌∷◌, length, Some, None, Ok, Err, Result, sym, refl, ap, ◌∙◌, subst, add-zero, add-suc, arith}
+use Rattle.std.proofs.lemmas.Bool.{ne_eqb}
 use Rattle.processor.specs.declared.Mark.{Mark}
 use Rattle.processor.specs.declared.Mark.TheVariants as mark
-use Rattle.processor.specs.Views.{Fault, Places}
-use Rattle.processor.specs.Rules.{Rules, State, state, instruction}
-use Rattle.session.specs.Runs.{Ending, counted, halted, at_break, full, refused, is_halted, told_stop}
-use Rattle.session_log.specs.declared.line.Answer.{Answer}
-use Rattle.session_log.specs.declared.line.Answer.TheVariants as answer
-use Rattle.session_log.specs.declared.line.Call.{Call}
-use Rattle.session_log.specs.declared.line.Call.TheVariants.{Run, Back, Forget, Look}
-use Rattle.session_log.specs.declared.line.Line.{Line}
-use Rattle.session_log.specs.Replies.{told_line}
-use Rattle.session_log.specs.Plain.{Plain, count, push, drops, Move, onto, held, by_instruction, move, PlainRan, plain_ran, plain_run, PlainServed, replied, plain_call, plain_lines, filled, after, then_instruction}
+use Rattle.processor.specs.Views.{Fault}
+use Rattle.processor.specs.Rules.{Rules, State, instruction}
+use Rattle.session.specs.Runs.{Ending, counted, halted, at_break, full, refused, is_halted}
+use Rattle.session_log.specs.Plain.{Plain, count, push, Move, onto, held, by_instruction, PlainRan, plain_ran, plain_run, after, then_instruction}
 use Rattle.session_log.specs.Stands.{Follow}
 use Rattle.session_log.specs.Kept.{by_next, ending, Met, Ends, RunKept, BackKept, ForgetKept, LookKept, CallKept, depth_after, PageLine, LogKept}
 use Rattle.session_log.specs.Kept as kept

@@ -1,23 +1,21 @@
-use Rattle.std.proofs.Common.{◌≡◌, ℕ, zero, suc, ◌+◌, ◌-◌, ◌<◌, ◌≤◌, Bool, true, false, cond, ltb, List, [], ◌∷◌, length, None, Ok, Err, Result, sym, refl, ap, ◌∙◌, subst, zero-add, arith}
+use Rattle.std.proofs.Common.{◌≡◌, ℕ, zero, suc, ◌+◌, ◌-◌, ◌≤◌, Bool, true, false, cond, ltb, List, [], ◌∷◌, length, None, Ok, Err, Result, sym, refl, ap, ◌∙◌, subst, zero-add, arith}
 use Rattle.std.proofs.lemmas.Bool.{ltb-true, ltb-false}
-use Rattle.refusal.specs.declared.Refusal.{Refusal}
 use Rattle.refusal.specs.declared.Cause.TheVariants.{RunTooLong, CountTooHigh, BackTooFar}
 use Rattle.processor.specs.Views.{Places}
 use Rattle.processor.specs.Rules.{Rules, State}
 use Rattle.session.specs.Snapshots.{Reason, rule}
-use Rattle.session.specs.Runs.{Ending, told_stop}
-use Rattle.session_log.specs.declared.line.Answer.{Answer}
+use Rattle.session.specs.Runs.{told_stop}
 use Rattle.session_log.specs.declared.line.Answer.TheVariants as answer
 use Rattle.session_log.specs.declared.line.Call.{Call}
 use Rattle.session_log.specs.declared.line.Call.TheVariants.{Run, Back, Forget, Look}
 use Rattle.session_log.specs.declared.line.Line.{Line}
-use Rattle.session_log.specs.Replies.{Reply, ran, taken, word, told_line}
+use Rattle.session_log.specs.Replies.{ran, taken, told_line}
 use Rattle.session_log.specs.Serving.{word_reply}
-use Rattle.session_log.specs.Plain.{Plain, count, drops, PlainRan, plain_run, PlainServed, replied, plain_call, plain_lines}
+use Rattle.session_log.specs.Plain.{Plain, count, drops, plain_run, PlainServed, replied, plain_call, plain_lines}
 use Rattle.session_log.specs.Stands.{Follow}
 use Rattle.session_log.specs.Kept.{RunKept, too_long, too_high, BackKept, LookKept, CallKept, depth_after, LogKept}
 use Rattle.session_log.specs.Kept as kept
-use Rattle.session_log.proofs.Keeps.{follow_after, Far, far, follow_run, ends}
+use Rattle.session_log.proofs.Keeps.{follow_after, far, follow_run, ends}
 
 module _ {P : Type 0} (r : Rules P) (p : Places) (j : ℕ) (w : State P) where
   -- a plain session that goes back to w: its states follow each other, and it keeps at least as many as can be taken back

@@ -1,18 +1,18 @@
-use Rattle.std.proofs.Common.{◌≡◌, ℕ, zero, suc, ◌+◌, ◌-◌, ◌<◌, ◌≤◌, Bool, true, false, cond, ◌&&◌, ◌||◌, ltb, List, [], ◌∷◌, length, take, Some, None, Ok, Err, Option, Result, sym, refl, ap, ◌∙◌, subst, arith}
-use Rattle.std.proofs.lemmas.Bool.{ltb-false, le-ltb, and_right, or_from}
+use Rattle.std.proofs.Common.{◌≡◌, ℕ, ◌+◌, Bool, true, false, cond, ◌&&◌, ◌||◌, ltb, List, [], ◌∷◌, length, None, Ok, Err, Option, sym, refl, ap, ◌∙◌, subst, arith}
+use Rattle.std.proofs.lemmas.Bool.{ltb-false, le-ltb, and_right}
 use Rattle.refusal.specs.declared.Cause.{Cause}
 use Rattle.refusal.specs.declared.Cause.TheVariants.{RunTooLong, CountTooHigh, BackTooFar}
 use Rattle.processor.specs.Views.{Fault, Places}
 use Rattle.processor.specs.Rules.{Rules, State}
-use Rattle.session.specs.Snapshots.{Snapshot, Reason, rule}
-use Rattle.session.specs.Runs.{Ended, runs_on, run}
-use Rattle.session.specs.Backs.{newest, Gone, takes, backs_on, back}
+use Rattle.session.specs.Snapshots.{Snapshot, rule}
+use Rattle.session.specs.Runs.{Ended, runs_on}
+use Rattle.session.specs.Backs.{newest, Gone, backs_on}
 use Rattle.session_log.specs.declared.line.Call.{Call}
 use Rattle.session_log.specs.declared.line.Call.TheVariants.{Run, Back, Forget, Look}
 use Rattle.session_log.specs.declared.line.Line.{Line}
-use Rattle.session_log.specs.Replies.{Reply, ran, taken, forgotten, word}
+use Rattle.session_log.specs.Replies.{ran, taken}
 use Rattle.session_log.specs.Serving.{Served, served, served_run, served_back, by_run, by_back, serves, line_by, log_after, log_lines}
-use Rattle.session_log.specs.Plain.{Plain, count, PlainRan, plain_run, drops, PlainServed, replied, plain_call, plain_after, plain_lines, filled}
+use Rattle.session_log.specs.Plain.{Plain, PlainRan, plain_run, drops, PlainServed, replied, plain_call, plain_after, plain_lines, filled}
 use Rattle.session_log.specs.Stands.{Stands, Undo, Follow}
 use Rattle.session_log.proofs.Simulates.{Tied, plain_of, RunSim, BackSim, sim_run, sim_back}
 

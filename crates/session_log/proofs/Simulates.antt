@@ -1,17 +1,17 @@
-use Rattle.std.proofs.Common.{◌≡◌, ℕ, zero, suc, ◌+◌, ◌-◌, ◌<◌, ◌≤◌, Bool, true, false, cond, ◌&&◌, ◌||◌, ltb, List, [], ◌∷◌, reverse, length, get_or, take, set, Some, None, Ok, Err, Option, Result, sym, refl, ap, ◌∙◌, subst, add-zero, zero-add, add-one, arith, length-set}
+use Rattle.std.proofs.Common.{◌≡◌, ℕ, zero, suc, ◌+◌, ◌-◌, ◌<◌, ◌≤◌, Bool, true, false, cond, ltb, List, [], ◌∷◌, length, get_or, take, set, Some, None, Ok, Err, Result, sym, refl, ap, ◌∙◌, subst, add-zero, zero-add, add-one, arith, length-set}
 use Rattle.std.proofs.lemmas.List.{length-reverse, length-take-le}
-use Rattle.std.proofs.lemmas.Bool.{ltb-true, ltb-false}
+use Rattle.std.proofs.lemmas.Bool.{ltb-true}
 use Rattle.processor.specs.declared.Mark.{Mark}
 use Rattle.processor.specs.declared.Mark.TheVariants as mark
 use Rattle.processor.specs.Views.{Fault}
-use Rattle.processor.specs.Rules.{Rules, State, Moved, state_of, instruction}
+use Rattle.processor.specs.Rules.{Rules, State, Moved, state_of}
 use Rattle.session.specs.declared.entry.Entry.{Entry}
 use Rattle.session.specs.Snapshots.{Snapshot}
 use Rattle.session.specs.Trials.{tried, restored}
-use Rattle.session.specs.Runs.{Ending, counted, halted, at_break, full, refused, is_halted, Course, goes_on, last, none, by_mark, by_step, course, noted, turned, Ended, ended, runs_on}
+use Rattle.session.specs.Runs.{halted, at_break, full, is_halted, Course, goes_on, last, none, by_mark, by_step, noted, Ended, ended, runs_on}
 use Rattle.session.specs.Backs.{newest, undone, Gone, gone, takes}
 use Rattle.session.proofs.BackLaws.{newest_next, newest_set}
-use Rattle.session_log.specs.Plain.{Plain, push, drops, Move, onto, held, by_instruction, move, PlainRan, plain_ran, plain_run}
+use Rattle.session_log.specs.Plain.{Plain, push, drops, Move, onto, held, by_instruction, PlainRan, plain_ran, plain_run}
 use Rattle.session_log.specs.Stands.{Undo, Follow}
 use Rattle.session_log.proofs.Undoing.{entry_undoes}
 

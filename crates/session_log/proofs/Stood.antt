@@ -1,4 +1,4 @@
-use Rattle.std.proofs.Common.{◌≡◌, ℕ, suc, ◌≤◌, List, [], ◌∷◌, reverse, length, take, Ok, Err, Result, sym, refl, ap, ◌∙◌, subst, arith, MatchResult}
+use Rattle.std.proofs.Common.{◌≡◌, ℕ, ◌≤◌, List, [], ◌∷◌, length, take, Ok, Err, Result, sym, refl, ap, ◌∙◌, subst, arith, MatchResult}
 use Rattle.std.proofs.lemmas.List.{length-reverse, length-take-le}
 use Rattle.refusal.specs.declared.Refusal.{Refusal}
 use Rattle.processor.specs.Views.{View, Fault, Places}
@@ -15,7 +15,7 @@ use Rattle.session_log.specs.declared.line.Answer.{Answer}
 use Rattle.session_log.specs.declared.line.Call.{Call}
 use Rattle.session_log.specs.declared.line.Line.{Line}
 use Rattle.session_log.specs.Replies.{told_line}
-use Rattle.session_log.specs.Serving.{Served, serves, log_after, log_lines}
+use Rattle.session_log.specs.Serving.{serves, log_after, log_lines}
 use Rattle.session_log.specs.Plain.{Plain, count, fresh, PlainServed, plain_call, plain_after, plain_lines, after}
 use Rattle.session_log.specs.Stands.{Stands, Undo}
 use Rattle.session_log.specs.Kept.{LogKept}

@@ -7,7 +7,6 @@ use Rattle.processor.specs.declared.CellWrite.{CellWrite}
 use Rattle.processor.specs.declared.Next.{Next}
 use Rattle.processor.specs.Views.{Cell, Cells, View, view, Fault, side_of, exchange, yielded, granted, put, put_into}
 use Rattle.processor.specs.Rules.{Rules, State, state, Moved, written, moved, moved_by, state_of}
-use Rattle.session.specs.declared.entry.Entry.{Entry}
 use Rattle.session.specs.Trials.{tried, restored}
 
 abbrev free : ℕ → Cell

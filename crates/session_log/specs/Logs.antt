@@ -5,13 +5,12 @@ use Rattle.processor.specs.Rules.{Rules, State, state}
 use Rattle.tape.specs.Puts.{puts}
 use Rattle.session.specs.declared.entry.Entry.{Entry}
 use Rattle.session.specs.declared.state.Session.{Session}
-use Rattle.session.specs.Snapshots.{Snapshot, snapshot}
+use Rattle.session.specs.Snapshots.{Snapshot}
 use Rattle.session.specs.Opens.{put_all}
 use Rattle.session_log.specs.declared.line.Answer.{Answer}
 use Rattle.session_log.specs.declared.line.Call.{Call}
 use Rattle.session_log.specs.declared.line.Line.{Line}
 use Rattle.session_log.specs.Replies.{told_line}
-use Rattle.session_log.specs.Serving.{log_after, log_lines}
 use Rattle.session_log.specs.Plain.{Plain, count, plain_call, plain_after, plain_lines, after}
 use Rattle.session_log.specs.Stands.{Stands}
 use Rattle.session_log.specs.Kept.{LogKept}

@@ -1,6 +1,5 @@
 use Rattle.std.specs.Prelude.{ℕ, zero, suc, ◌+◌, ◌-◌, cond, List, [], ◌∷◌, length, None, Ok, Err, Result, nat_lt}
 use Rattle.refusal.specs.declared.Cause.TheVariants.{RunTooLong, CountTooHigh, BackTooFar}
-use Rattle.processor.specs.declared.Mark.{Mark}
 use Rattle.processor.specs.declared.Mark.TheVariants as mark
 use Rattle.processor.specs.Views.{Fault, Places}
 use Rattle.processor.specs.Rules.{Rules, State, instruction}
@@ -10,7 +9,7 @@ use Rattle.session.specs.Looks.{looked}
 use Rattle.session_log.specs.declared.line.Call.{Call}
 use Rattle.session_log.specs.declared.line.Call.TheVariants.{Run, Back, Forget, Look}
 use Rattle.session_log.specs.declared.line.Line.{Line}
-use Rattle.session_log.specs.Replies.{Reply, ran, taken, forgotten, word, told_line}
+use Rattle.session_log.specs.Replies.{Reply, ran, taken, forgotten, told_line}
 use Rattle.session_log.specs.Serving.{word_reply}
 
 -- The plain session keeps every state: the last one and those before it, the newest first. D, the depth, is how many can be taken back.

@@ -1,4 +1,4 @@
-use Rattle.std.specs.Prelude.{ℕ, ◌+◌, ◌*◌, ◌/◌, ◌%◌, Bool, true, cond, List, length, Some, None, nat_lt, slice_index, slice_set}
+use Rattle.std.specs.Prelude.{ℕ, ◌+◌, ◌*◌, ◌/◌, ◌%◌, true, cond, List, length, Some, None, nat_lt, slice_index, slice_set}
 use Rattle.stores.specs.Cells.{Cells, Locks, Places}
 
 -- every address is open

@@ -1,4 +1,4 @@
-use Rattle.std.proofs.Common.{◌≡◌, ◌<◌, ◌≤◌, length, ◌∙◌, arith}
+use Rattle.std.proofs.Common.{◌<◌, ◌≤◌, length, ◌∙◌, arith}
 use Rattle.session.specs.Snapshots.{snapshot}
 use Rattle.session_log.proofs.LogLaws.{after_more, lines_more, rest_more, after_all, lines_all}
 use Rattle.session_log.proofs.log.serve_all.Goals as goal

@@ -1,4 +1,4 @@
-use Rattle.std.proofs.Common.{◌≡◌, length, ap}
+use Rattle.std.proofs.Common.{length, ap}
 use Rattle.processor.specs.Views.{View, places}
 use Rattle.session_log.specs.Logs.{opening}
 use Rattle.session_log.specs.Alike.{stores_of, seen, left}

@@ -1,4 +1,4 @@
-use Rattle.std.proofs.Common.{◌≡◌, ℕ, length, Err, sym, ap, ◌∙◌, arith}
+use Rattle.std.proofs.Common.{◌≡◌, ℕ, length, Err, ap, ◌∙◌, arith}
 use Rattle.refusal.specs.declared.Cause.TheVariants.{MisplacedTapeEnd}
 use Rattle.refusal.specs.Numbers.{refused}
 use Rattle.tape.proofs.CheckLaws.{check_more, check_decided, check_all}

@@ -1,8 +1,5 @@
-use Rattle.std.proofs.Common.{◌≡◌, Result, sym, ap, ◌∙◌, rules}
-use Rattle.processor.specs.declared.Next.{Next}
-use Rattle.processor.specs.Views.{Fault, answer}
-use Rattle.icmc.specs.declared.machine.Machine.{Machine}
-use Rattle.icmc.specs.Steps.{performed, quiet}
+use Rattle.std.proofs.Common.{◌≡◌, ap, rules}
+use Rattle.icmc.specs.Steps.{quiet}
 use Rattle.icmc.specs.Calculations.{calculation}
 use Rattle.icmc.proofs.Rest.{Rest, rest_calculates, calculates_quietly}
 use Rattle.icmc.proofs.machine.Machine.perform.Goals as goal

@@ -1,4 +1,4 @@
-use Rattle.std.proofs.Common.{◌≡◌, ◌-◌, ◌<◌, ◌≤◌, length, sym, ap, ◌∙◌, arith}
+use Rattle.std.proofs.Common.{◌≡◌, ◌-◌, ◌<◌, ◌∙◌, arith}
 use Rattle.session.specs.Snapshots.{snapshot}
 use Rattle.session.proofs.BackLaws.{one_back, stops_back, one_less, never_none}
 use Rattle.session.proofs.state.Session.back_on.Goals as goal

@@ -1,4 +1,4 @@
-use Rattle.std.proofs.Common.{◌≡◌, ◌+◌, ◌-◌, ◌<◌, ◌≤◌, length}
+use Rattle.std.proofs.Common.{◌≡◌, ◌-◌, ◌<◌, ◌≤◌, length}
 use Rattle.session.specs.Snapshots.{snapshot}
 use Rattle.session.specs.Backs.{backs_on}
 use Rattle.session.proofs.state.Session.back_on.Given as goal

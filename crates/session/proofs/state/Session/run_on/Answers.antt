@@ -1,5 +1,4 @@
-use Rattle.std.proofs.Common.{◌≡◌, sym, ap, ◌∙◌, arith}
-use Rattle.session.specs.Snapshots.{snapshot}
+use Rattle.std.proofs.Common.{◌∙◌, arith}
 use Rattle.session.proofs.RunLaws.{more, stops_after, stops_before, one_more}
 use Rattle.session.proofs.state.Session.run_on.Goals as goal
 
