@@ -1,5 +1,5 @@
 use Rattle.std.proofs.Common.{◌≡◌, ℕ, zero, suc, ◌+◌, ◌*◌, ◌/◌, ◌%◌, ◌<◌, Bool, true, false, cond, not, ◌&&◌, eqb, ltb, List, [], ◌∷◌, ◌++◌, is_ok, Ok, Err, Result, sym, refl, ap, ◌∙◌, subst, inl, inr, arith}
-use Rattle.std.specs.List.{AllByRecursion as All}
+use Rattle.std.specs.List.{AllByRecursion}
 use Rattle.std.proofs.lemmas.Bool.{and_parts, or_cases, or_parts, or_from, and_left, eqb-true, not-true, not_from_false, cases_eq, cases_Bool, cond-false, cond-true, cond_both, false≢true}
 use Rattle.refusal.specs.declared.Refusal.{Refusal}
 use Rattle.refusal.specs.declared.Cause.TheVariants.{Unassigned}
@@ -127,10 +127,10 @@ part_3c = refl
 part_3d : part 0x3d ≡ true
 part_3d = refl
 
-parts : All (λ op. part op ≡ true) op_codes
+parts : AllByRecursion (λ op. part op ≡ true) op_codes
 parts = (part_00, (part_02, (part_03, (part_04, (part_05, (part_06, (part_08, (part_0e, (part_0f, (part_10, (part_12, (part_13, (part_14, (part_15, (part_16, (part_20, (part_21, (part_22, (part_23, (part_24, (part_25, (part_30, (part_31, (part_32, (part_33, (part_35, (part_38, (part_3c, (part_3d, tt)))))))))))))))))))))))))))))
 
-all_at : (P : ℕ → Type 0) (ns : List ℕ) → All P ns → (n : ℕ) → among ns n ≡ true → P n
+all_at : (P : ℕ → Type 0) (ns : List ℕ) → AllByRecursion P ns → (n : ℕ) → among ns n ≡ true → P n
 all_at P [] a n t = absurd (false≢true t)
 all_at P (m ∷ ms) a n t =
     elim (or_cases (eqb n m) (among ms n) t)
@@ -185,7 +185,7 @@ abbrev UnassignedIfErr : Result Instruction Refusal → Type 0
 UnassignedIfErr (Ok i) = Unit {0}
 UnassignedIfErr (Err e) = e ≡ refused Unassigned 0
 
-row_all : {A : Type 0} (P : A → Type 0) (other : A) (rows : List (ℕ × A)) → P other → All (λ r. P r.1) rows → (n : ℕ) → P (row_at other rows n)
+row_all : {A : Type 0} (P : A → Type 0) (other : A) (rows : List (ℕ × A)) → P other → AllByRecursion (λ r. P r.1) rows → (n : ℕ) → P (row_at other rows n)
 row_all P other [] h a n = h
 row_all P other (r ∷ rs) h a n =
     cond_both (eqb n r.0) r.1 (row_at other rs n) P (λ _. a.0) (λ _. row_all P other rs h a.1 n)

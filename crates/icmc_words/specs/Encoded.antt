@@ -1,5 +1,5 @@
 use Rattle.std.specs.Prelude.{ℕ, ◌+◌, ◌*◌, ◌^◌, ◌<◌, Bool, true, cond, ◌&&◌, List, [], ◌∷◌, Ok, Err, Result, nat_lt}
-use Rattle.std.specs.List.{AllByRecursion as All}
+use Rattle.std.specs.List.{AllByRecursion}
 use Rattle.refusal.specs.declared.Refusal.{Refusal}
 use Rattle.refusal.specs.declared.Cause.TheVariants.{OutOfRange}
 use Rattle.refusal.specs.Numbers.{refused}
@@ -109,7 +109,7 @@ abbrev pub encodable : Instruction → Bool
 encodable i = in_bounds (layout i).fields
 
 abbrev pub Within : Instruction → Type 0
-Within i = All (λ f. f.value < f.bound) (layout i).fields
+Within i = AllByRecursion (λ f. f.value < f.bound) (layout i).fields
 
 -- an instruction that is answered has its operands within their bounds
 abbrev pub WithinIfOk : Result Instruction Refusal → Type 0
