@@ -1,11 +1,10 @@
-use Rattle.std.proofs.Common.{◌≡◌, ℕ, zero, suc, ◌+◌, ◌-◌, ◌<◌, ◌≤◌, Bool, true, false, cond, ◌&&◌, ◌||◌, eqb, leb, List, [], ◌∷◌, length, get_or, take, drop, Some, None, Option, sym, refl, ap, ◌∙◌, arith}
+use Rattle.std.proofs.Common.{◌≡◌, ℕ, zero, suc, ◌+◌, ◌<◌, ◌≤◌, Bool, true, false, ◌&&◌, ◌||◌, eqb, leb, List, [], ◌∷◌, length, get_or, drop, Some, None, Option, sym, refl, ap, ◌∙◌, arith}
 use Rattle.std.specs.List.{prefix_len}
 use Rattle.std.proofs.lemmas.List.{length-drop}
 use Rattle.std.proofs.lemmas.Bool.{both_ways, and_parts, eqb-false, cond_both}
 use Rattle.page_tokens.specs.declared.class.Class.TheVariants.{Blank, NameStart, NamePart, Digit, Letter}
 use Rattle.page_tokens.specs.Classes.{between, of_class}
-use Rattle.page_tokens.specs.Names.{named}
-use Rattle.page_tokens.specs.Symbols.{Symbol, word, number, colon, comma, plus, quoted, malformed, Piece, piece, spoiled, decimal, number_of, number_piece, quoted_of, quoted_piece, word_of, word_piece, piece_by, front_piece, past_blanks, first_piece, first_token, symbols_by, symbols_in, symbols}
+use Rattle.page_tokens.specs.Symbols.{Symbol, Piece, piece, spoiled, number_piece, quoted_piece, word_piece, piece_by, front_piece, first_token, symbols_by, symbols_in, symbols}
 
 -- a token takes a byte or more
 abbrev Takes : Piece → Type 0

@@ -1,4 +1,4 @@
-use Rattle.std.proofs.Common.{◌≡◌, ap, ◌∙◌, rules}
+use Rattle.std.proofs.Common.{rules}
 use Rattle.std.proofs.lemmas.List.{take_all}
 use Rattle.page_tokens.proofs.NameLaws.{spell_more}
 use Rattle.page_tokens.proofs.name.Name.of.Goals as goal
