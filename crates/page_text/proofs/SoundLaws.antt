@@ -22,7 +22,7 @@ use Rattle.page_text.specs.declared.form.ThreeRegisters.TheVariants as three_reg
 use Rattle.page_text.specs.declared.statement.Operand.{Operand}
 use Rattle.page_text.specs.Forms.{on_none, on_one, on_two, on_three}
 use Rattle.page_text.specs.Grammar.{Part, word_in, register, register_or, number, address, name, comma, plus, letters}
-use Rattle.page_text.specs.Sayings.{Saying, nothing, one, two, room, text, fixed, then, ended, one_word, two_words, on_stack, mov_from, mov_to, operands, by_form, by_word, statement, line_read}
+use Rattle.page_text.specs.Sayings.{Saying, one, two, room, text, fixed, then, ended, one_word, two_words, on_stack, mov_from, mov_to, operands, by_form, by_word, statement, line_read}
 use Rattle.page_text.specs.Sound.{Sound}
 use Rattle.page_text.specs.Table.{form_named}
 
