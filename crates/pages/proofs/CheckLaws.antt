@@ -8,7 +8,7 @@ use Rattle.page_text.specs.Sayings.{Reading}
 use Rattle.pages.specs.declared.check.Progress.{Progress}
 use Rattle.pages.specs.declared.label.Label.{Label}
 use Rattle.pages.specs.Labels.{begins_with}
-use Rattle.pages.specs.Page.{gained, shelved, Gathering, gathered, gathers}
+use Rattle.pages.specs.Page.{gained, shelved, Gathering, gathers}
 use Rattle.pages.specs.Program.{held_line, held}
 use Rattle.pages.proofs.OnLaws.{grows}
 use Rattle.pages.proofs.HeldLaws.{begins_itself, begins_holds, begins_first}

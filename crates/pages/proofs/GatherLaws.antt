@@ -1,4 +1,4 @@
-use Rattle.std.proofs.Common.{◌≡◌, ℕ, ◌+◌, ◌≤◌, List, [], ◌∷◌, ◌++◌, length, take, drop, Ok, Err, Result, sym, refl, ap, ◌∙◌}
+use Rattle.std.proofs.Common.{◌≡◌, ℕ, ◌+◌, ◌≤◌, List, [], ◌∷◌, ◌++◌, length, take, drop, Ok, Err, Result, sym, ap, ◌∙◌}
 use Rattle.std.proofs.lemmas.List.{length-take-le, take-append-drop}
 use Rattle.refusal.specs.declared.Cause.{Cause}
 use Rattle.refusal.specs.declared.Refusal.{Refusal}
@@ -6,7 +6,6 @@ use Rattle.refusal.specs.Numbers.{refused}
 use Rattle.page_text.specs.Sayings.{Reading}
 use Rattle.pages.specs.declared.label.Label.{Label}
 use Rattle.pages.specs.declared.line.Gain.{Gain}
-use Rattle.pages.specs.declared.gathering.Gathered.{Gathered}
 use Rattle.pages.specs.Page.{gained, shelved, Gathering, gathered, gathers, gather_answer, slots_after}
 
 -- a loop over lines, which has gathered the labels ls and come to the address a and the line i; rs are the lines that are left

@@ -1,4 +1,4 @@
-use Rattle.std.proofs.Common.{◌≡◌, ℕ, ◌+◌, ◌%◌, ◌<◌, ◌≤◌, Bool, true, false, cond, leb, List, [], ◌∷◌, map, length, take, drop, Ok, Err, sum_by, Result, sym, refl, ap, ◌∙◌, subst, zero-add, arith}
+use Rattle.std.proofs.Common.{◌≡◌, ℕ, ◌%◌, ◌≤◌, Bool, true, false, cond, leb, List, [], ◌∷◌, map, length, take, drop, Ok, Err, sum_by, Result, sym, refl, ap, ◌∙◌, subst, zero-add, arith}
 use Rattle.std.specs.List.{AllByRecursion as All}
 use Rattle.std.proofs.lemmas.Bool.{leb-true}
 use Rattle.refusal.specs.declared.Cause.TheVariants.{TextTooLong, TooManyWords, NotGathered}
@@ -10,7 +10,7 @@ use Rattle.page_text.specs.Sound.{Sound}
 use Rattle.page_text.proofs.SoundLaws.{sound_line}
 use Rattle.pages.specs.declared.label.Label.{Label}
 use Rattle.pages.specs.Labels.{begins_with}
-use Rattle.pages.specs.Page.{Gathering, gathered, gathers, page_from, page, gathering}
+use Rattle.pages.specs.Page.{Gathering, gathers, page_from, page, gathering}
 use Rattle.pages.specs.Program.{GatheredOn, places, placing_in, placing_by, placing, line_size}
 use Rattle.pages.specs.Laws.{address, line, NamesStand, Stands, ProgramStands, NamesIfOk, ProgramIfOk}
 use Rattle.pages.proofs.HeldLaws.{begins_holds}

@@ -1,4 +1,4 @@
-use Rattle.std.proofs.Common.{◌≡◌, ℕ, zero, suc, ◌+◌, ◌%◌, ◌<◌, Bool, true, false, cond, ltb, List, [], ◌∷◌, ◌++◌, length, take, is_some, Some, None, Ok, Err, sum_by, Option, Result, sym, refl, ap, ◌∙◌, subst, add-zero, arith}
+use Rattle.std.proofs.Common.{◌≡◌, ℕ, zero, suc, ◌+◌, ◌%◌, ◌<◌, Bool, true, false, cond, ltb, List, [], ◌∷◌, ◌++◌, length, take, is_some, Some, None, Ok, Option, Result, sym, refl, ap, ◌∙◌, add-zero, arith}
 use Rattle.std.proofs.lemmas.Slice.Eq.{bytes_eq-Decides}
 use Rattle.std.proofs.lemmas.List.{append_assoc}
 use Rattle.std.proofs.lemmas.List.Sums.{sum_by-cons}
@@ -7,14 +7,14 @@ use Rattle.refusal.specs.declared.Cause.{Cause}
 use Rattle.refusal.specs.declared.Cause.TheVariants.{DuplicateName, LabelSlotsFull}
 use Rattle.page_tokens.specs.declared.name.Name.{Name}
 use Rattle.page_tokens.specs.Names.{same_name}
-use Rattle.page_text.specs.Sayings.{Saying, Reading}
+use Rattle.page_text.specs.Sayings.{Reading}
 use Rattle.pages.specs.declared.label.Label.{Label}
 use Rattle.pages.specs.declared.line.Gain.{Gain}
 use Rattle.pages.specs.Labels.{find_label}
 use Rattle.pages.specs.Page.{size_of, label_for, labelled, name_fault, unless, stated, gained, with_label, Gathering, gathers}
 use Rattle.pages.specs.Program.{size_said, line_size}
 use Rattle.pages.specs.Laws.{address, line}
-use Rattle.pages.proofs.OnLaws.{Says, Goes, goes, grows}
+use Rattle.pages.proofs.OnLaws.{goes, grows}
 
 -- a name that was accepted is new
 no_fault : (o : Option Cause) (x : Result Gain Cause) (g : Gain) → unless o x ≡ Ok g → o ≡ None

@@ -1,10 +1,10 @@
-use Rattle.std.proofs.Common.{◌≡◌, ℕ, ◌+◌, ◌-◌, ◌<◌, ◌≤◌, min, Bool, true, false, cond, eqb, List, [], ◌∷◌, map, length, take, drop, IfSome, Some, None, Option, sym, refl, ap, ◌∙◌, subst, ⊎_elim, arith, Bor}
+use Rattle.std.proofs.Common.{◌≡◌, ℕ, ◌+◌, ◌<◌, ◌≤◌, true, false, eqb, List, map, length, drop, IfSome, Some, None, Option, sym, refl, ap, ◌∙◌, ⊎_elim, arith, Bor}
 use Rattle.std.specs.Option.{option_map}
 use Rattle.std.proofs.lemmas.List.{length-drop, drop-drop}
 use Rattle.std.proofs.lemmas.Bool.{cases_Bool, eqb-false, cond-true}
 use Rattle.page_tokens.specs.Lines.{lines, first_line, line_size}
 use Rattle.page_tokens.proofs.LineLaws.{with_first, lines_first}
-use Rattle.page_text.specs.Sayings.{Reading, line_read}
+use Rattle.page_text.specs.Sayings.{line_read}
 use Rattle.pages.specs.Page.{page_from, reads_first}
 
 reads : (o : Option (List ℕ)) (ls : List (List ℕ)) → map line_read (with_first o ls) ≡ reads_first o (map line_read ls)

@@ -1,4 +1,4 @@
-use Rattle.std.proofs.Common.{◌≡◌, ℕ, ◌+◌, ◌%◌, ◌≤◌, Bool, true, false, cond, leb, List, [], ◌∷◌, ◌++◌, length, take, Some, None, Ok, Err, Option, Result, sym, refl, ap, ◌∙◌, subst, arith}
+use Rattle.std.proofs.Common.{◌≡◌, ℕ, ◌+◌, ◌≤◌, Bool, true, false, cond, leb, List, [], ◌∷◌, ◌++◌, length, take, Some, None, Ok, Err, Option, Result, sym, refl, ap, ◌∙◌, subst, arith}
 use native.Mathlib.Nat.{mod-le}
 use Rattle.std.specs.List.{AllByRecursion as All}
 use Rattle.std.proofs.ByRecursion.{All-push, All-weaker}
@@ -12,7 +12,7 @@ use Rattle.page_tokens.specs.declared.name.Name.{Name}
 use Rattle.page_text.specs.Sayings.{Saying, nothing, one, two, room, text, fixed, Reading}
 use Rattle.pages.specs.declared.label.Label.{Label}
 use Rattle.pages.specs.declared.line.Gain.{Gain}
-use Rattle.pages.specs.Page.{size_of, room_of, label_for, labelled, name_fault, sized, stated, unless, gained, with_label, shelved, Gathering, gathered, gathers}
+use Rattle.pages.specs.Page.{size_of, room_of, label_for, labelled, name_fault, stated, unless, gained, with_label, shelved, Gathering, gathered, gathers}
 use Rattle.pages.specs.Program.{Fits, Before, names_with, size_said, line_size, GatheredOn}
 
 -- what a line that is accepted says, and what it adds

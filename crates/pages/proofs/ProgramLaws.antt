@@ -1,4 +1,4 @@
-use Rattle.std.proofs.Common.{◌≡◌, ℕ, zero, suc, ◌+◌, ◌%◌, ◌<◌, ◌≤◌, Bool, true, false, cond, ltb, ◌⊎◌, List, [], ◌∷◌, ◌++◌, length, get_or, take, set, replicate, Some, None, Ok, Err, sum_by, Option, Result, sym, refl, ap, ◌∙◌, subst, inl, inr, ⊎_elim, add-zero, add_assoc, mod-eq_of_lt, arith}
+use Rattle.std.proofs.Common.{◌≡◌, ℕ, zero, suc, ◌+◌, ◌<◌, ◌≤◌, Bool, true, false, cond, ltb, ◌⊎◌, List, [], ◌∷◌, ◌++◌, length, get_or, take, set, replicate, Some, None, Ok, Err, sum_by, Option, Result, sym, refl, ap, ◌∙◌, subst, inl, inr, add-zero, mod-eq_of_lt, arith}
 use Rattle.std.specs.List.{AllByRecursion as All}
 use Rattle.std.proofs.ByRecursion.{All-push, All-append, All-weaker}
 use Rattle.std.proofs.lemmas.List.{append-nil, append_assoc, get_or-append-add, length-append, length_push, length-set, length-replicate}
@@ -20,7 +20,7 @@ use Rattle.pages.specs.Labels.{find_label}
 use Rattle.pages.specs.Page.{size_of, room_of, label_for, labelled, with_label, gathers, Gathering, gathered}
 use Rattle.pages.specs.Program.{word_or_0, first_word, second_word, with_second, with_fixed, with_saying, with_line, extended, Before, names_with, size_said, line_size, GatheredOn, places}
 use Rattle.pages.specs.Laws.{address, line, Stands}
-use Rattle.pages.proofs.OnLaws.{Says, goes, Goes, grows, went, before_it, on_again, sized_so, gathered_on}
+use Rattle.pages.proofs.OnLaws.{Says, goes, went, before_it, on_again, sized_so, gathered_on}
 use Rattle.pages.proofs.StandLaws.{placed_on, Apart, Same, places_same}
 
 -- a variable that begins at an address or behind it

@@ -1,4 +1,4 @@
-use Rattle.std.proofs.Common.{Err, sym, ap, ◌∙◌, arith}
+use Rattle.std.proofs.Common.{Err, ap, ◌∙◌, arith}
 use Rattle.pages.specs.Page.{gather_answer}
 use Rattle.pages.proofs.FrameLaws.{still_alone}
 use Rattle.pages.proofs.GatherLaws.{gathers_more, gathers_refused, gathers_all, all_answered, all_kept}

@@ -1,6 +1,6 @@
-use Rattle.std.proofs.Common.{◌≤◌, List, length, Err, sym, ap, ◌∙◌, subst, arith}
+use Rattle.std.proofs.Common.{◌≤◌, List, length, Err, ap, ◌∙◌, subst, arith}
 use Rattle.page_text.specs.Sayings.{Reading}
-use Rattle.pages.specs.Program.{Fits, GatheredOn, place_answer}
+use Rattle.pages.specs.Program.{GatheredOn, place_answer}
 use Rattle.pages.proofs.FrameLaws.{still_alone}
 use Rattle.pages.proofs.OnLaws.{line_fits, gathered_on, at_within}
 use Rattle.pages.proofs.PlaceLaws.{places_more, places_refused, places_all, placed_answered, placed_kept}

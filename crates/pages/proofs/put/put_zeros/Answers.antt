@@ -8,6 +8,6 @@ loop-done-preserved c =
     let l = c.loop-done in
     let e = c.put.ensures in (
       omega (arith, e.size),
-      zeros_more _ _ _ l.-done e.words l.invariant.1,
+      zeros_more _ _ _ l._done e.words l.invariant.1,
       still_alone l.program.used c.put.new.program.used _ _ _ (omega (arith, e.size)) e.rest l.invariant.2,
     )
