@@ -1,4 +1,4 @@
-use Rattle.std.proofs.Common.{◌≡◌, ℕ, zero, suc, ◌+◌, ◌/◌, ◌%◌, ◌<◌, ◌≤◌, Bool, cond, eqb, ltb, List, [], ◌∷◌, ◌++◌, length, get_or, Some, None, Ok, Err, sum, Option, Result, sym, refl, ap, ◌∙◌, arith}
+use Rattle.std.proofs.Common.{◌≡◌, ℕ, suc, ◌+◌, ◌%◌, ◌<◌, ◌≤◌, Bool, cond, eqb, List, [], ◌∷◌, ◌++◌, length, get_or, Some, None, Ok, Err, sum, Option, Result, refl, ap, ◌∙◌, arith}
 use Rattle.std.proofs.lemmas.List.{length-append, get_or_append_left, get_or_push}
 use Rattle.std.proofs.lemmas.List.Sums.{sum_by-cons}
 use Rattle.std.proofs.lemmas.Bool.{eq-eqb, le-ltb}
@@ -7,10 +7,10 @@ use Rattle.refusal.specs.declared.Cause.TheVariants.{WrongTapeSum, PlacePastEnd}
 use Rattle.refusal.specs.Numbers.{refused}
 use Rattle.tape.specs.declared.cursor.CellWord.{CellWord}
 use Rattle.tape.specs.declared.item.Item.{Item}
-use Rattle.tape.specs.declared.item.Item.TheVariants.{Put, Move, End}
+use Rattle.tape.specs.declared.item.Item.TheVariants.{Put, End}
 use Rattle.tape.specs.Items.{kind, filler, value, item_of, item}
-use Rattle.tape.specs.Puts.{put_by, place_after, with_put, puts_from, puts}
-use Rattle.tape.specs.Checks.{verdict, end_verdict, sum_after, checks, checked}
+use Rattle.tape.specs.Puts.{put_by, place_after, with_put, puts_from}
+use Rattle.tape.specs.Checks.{verdict, sum_after, checks}
 use Rattle.taping.specs.Tapes.{checksum, tape_of, cell_words, HoldsProgram}
 
 -- words of 16 bits
