@@ -1,6 +1,6 @@
 use Rattle.std.proofs.Common.{◌≡◌, ℕ, ◌+◌, ◌<◌, Bool, true, false, cond, ltb, List, [], ◌∷◌, take, drop, set, Some, Ok, Err, Option, sym, ap, ◌∙◌, arith}
 use lib.Seq.{take-set-lt}
-use Rattle.std.specs.List.{AllByRecursion as All}
+use Rattle.std.specs.List.{AllByRecursion}
 use Rattle.std.proofs.lemmas.List.{drop-set-lt}
 use Rattle.std.proofs.lemmas.Bool.{lt-ltb, cond-true}
 use Rattle.refusal.specs.declared.Cause.TheVariants.{OutsideVariable}
@@ -15,7 +15,7 @@ found_by : (P : Label → Type 0) (b : Bool) (l m : Label) (o : Option Label) �
 found_by P true l m o h k e = let s : l ≡ m = cc in rw s at h
 found_by P false l m o h k e = k e
 
-pub found : (P : Label → Type 0) (ls : List Label) (n : Name) (l : Label) → All P ls → find_label ls n ≡ Some l → P l
+pub found : (P : Label → Type 0) (ls : List Label) (n : Name) (l : Label) → AllByRecursion P ls → find_label ls n ≡ Some l → P l
 found P [] n l h e = absurd (let z : ◌≡◌ {A = ℕ} 0 1 = cc in omega arith)
 found P (m ∷ ls) n l h e = found_by P (same_name m.name n) m l (find_label ls n) h.0 (λ d. found P ls n l h.1 d) e
 

@@ -1,5 +1,5 @@
 use Rattle.std.proofs.Common.{◌≡◌, ℕ, ◌%◌, ◌≤◌, Bool, true, false, cond, leb, List, [], ◌∷◌, map, length, take, drop, Ok, Err, sum_by, Result, sym, refl, ap, ◌∙◌, subst, zero-add, arith}
-use Rattle.std.specs.List.{AllByRecursion as All}
+use Rattle.std.specs.List.{AllByRecursion}
 use Rattle.std.proofs.lemmas.Bool.{leb-true}
 use Rattle.refusal.specs.declared.Cause.TheVariants.{TextTooLong, TooManyWords, NotGathered}
 use Rattle.refusal.specs.declared.Refusal.{Refusal}
@@ -18,11 +18,11 @@ use Rattle.pages.proofs.NameLaws.{names_stand}
 use Rattle.pages.proofs.ProgramLaws.{placed_all}
 
 -- what each line of a page says is sound
-sound_lines : (ls : List (List ℕ)) → All (λ r. Sound r.saying) (map line_read ls)
+sound_lines : (ls : List (List ℕ)) → AllByRecursion (λ r. Sound r.saying) (map line_read ls)
 sound_lines [] = tt
 sound_lines (l ∷ ls) = (sound_line l, sound_lines ls)
 
-sound_page : (bytes : List ℕ) → All (λ r. Sound r.saying) (page bytes)
+sound_page : (bytes : List ℕ) → AllByRecursion (λ r. Sound r.saying) (page bytes)
 unfolding page_from
 sound_page bytes = sound_lines (lines (drop 0 bytes))
 

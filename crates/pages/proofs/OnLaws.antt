@@ -1,6 +1,6 @@
 use Rattle.std.proofs.Common.{◌≡◌, ℕ, ◌+◌, ◌≤◌, Bool, true, false, cond, leb, List, [], ◌∷◌, ◌++◌, length, take, Some, None, Ok, Err, Option, Result, sym, refl, ap, ◌∙◌, subst, arith}
 use native.Mathlib.Nat.{mod-le}
-use Rattle.std.specs.List.{AllByRecursion as All}
+use Rattle.std.specs.List.{AllByRecursion}
 use Rattle.std.proofs.ByRecursion.{All-push, All-weaker}
 use Rattle.std.proofs.lemmas.List.{append_assoc, append-nil, length-append, length_push, length-take-le, take_at}
 use Rattle.std.proofs.lemmas.Bool.{leb-true}
@@ -100,7 +100,7 @@ room_fits (fixed n p v) = omega arith
 own_before : (s : Saying) (a b : ℕ) (n : Name) → b ≡ a + size_of s → Before b (label_for s a n)
 own_before s a b n e = let h = room_fits s in let m = mod-le a 65536 in omega arith
 
-with_label_before : (s : Saying) (a b : ℕ) (n : Option Name) (ls : List Label) → b ≡ a + size_of s → All (Before b) ls → All (Before b) (with_label ls (labelled s a n))
+with_label_before : (s : Saying) (a b : ℕ) (n : Option Name) (ls : List Label) → b ≡ a + size_of s → AllByRecursion (Before b) ls → AllByRecursion (Before b) (with_label ls (labelled s a n))
 with_label_before s a b None ls e h = h
 with_label_before s a b (Some n) ls e h = All-push (Before b) ls (label_for s a n) h (own_before s a b n e)
 

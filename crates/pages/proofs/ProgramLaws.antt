@@ -1,5 +1,5 @@
 use Rattle.std.proofs.Common.{◌≡◌, ℕ, zero, suc, ◌+◌, ◌<◌, ◌≤◌, Bool, true, false, cond, ltb, ◌⊎◌, List, [], ◌∷◌, ◌++◌, length, get_or, take, set, replicate, Some, None, Ok, Err, sum_by, Option, Result, sym, refl, ap, ◌∙◌, subst, inl, inr, add-zero, mod-eq_of_lt, arith}
-use Rattle.std.specs.List.{AllByRecursion as All}
+use Rattle.std.specs.List.{AllByRecursion}
 use Rattle.std.proofs.ByRecursion.{All-push, All-append, All-weaker}
 use Rattle.std.proofs.lemmas.List.{append-nil, append_assoc, get_or-append-add, length-append, length_push, length-set, length-replicate}
 use Rattle.std.proofs.lemmas.List.Sums.{sum_by-cons}
@@ -48,7 +48,7 @@ after_further a b h l (inr e) = inr (omega arith)
 pub record Later (ls : List Label) (a : ℕ) (w : Gathering) : Type 0 where
   pub more : List Label
   pub labels : w.labels ≡ ls ++ more
-  pub after : All (After a) more
+  pub after : AllByRecursion (After a) more
 
 later_with : (s : Saying) (a b : ℕ) (n : Option Name) (ls : List Label) (w : Gathering) → b ≡ a + size_of s → b ≤ 65536 → Later (with_label ls (labelled s a n)) b w → Later ls a w
 later_with s a b None ls w e h t =
@@ -82,7 +82,7 @@ after_apart : (lo hi : ℕ) (l : Label) → After hi l → Apart lo hi l
 after_apart lo hi l (inl e) = inr (inl e)
 after_apart lo hi l (inr e) = inr (inr e)
 
-own_apart : (s : Saying) (a hi : ℕ) (n : Option Name) (ls : List Label) → Bare s → All (Apart a hi) ls → All (Apart a hi) (with_label ls (labelled s a n))
+own_apart : (s : Saying) (a hi : ℕ) (n : Option Name) (ls : List Label) → Bare s → AllByRecursion (Apart a hi) ls → AllByRecursion (Apart a hi) (with_label ls (labelled s a n))
 own_apart s a hi None ls b h = h
 own_apart s a hi (Some n) ls b h = All-push (Apart a hi) ls (label_for s a n) h (inr (inl b))
 
@@ -90,13 +90,13 @@ module _ (r : Reading) (rest : List Reading) (ls : List Label) (k at words i : �
   abbrev said : Saying
   said = (went r rest ls k at words i g).says.saying
 
-  pub bare_apart : Bare said → All (Apart at (at + size_of said)) ls
+  pub bare_apart : Bare said → AllByRecursion (Apart at (at + size_of said)) ls
   bare_apart b =
       let hi : ℕ = at + size_of said in
       let own = before_it r rest ls k at words i g in
       let t = later g.slots rest own hi (i + 1) (gathered ls g.size) (on_again r rest ls k at words i g) in
       let front = own_apart said at hi r.name (take k ls) b (All-weaker (Before at) (Apart at hi) (before_apart at hi) (take k ls) g.before) in
-      subst (λ (xs : List Label). All (Apart at hi) xs) (sym t.labels)
+      subst (λ (xs : List Label). AllByRecursion (Apart at hi) xs) (sym t.labels)
       (All-append (Apart at hi) own t.more front (All-weaker (After hi) (Apart at hi) (after_apart at hi) t.more t.after))
 
 -- a program after a line is longer by the line's size
@@ -195,7 +195,7 @@ module _ (r : Reading) (rest : List Reading) (ls : List Label) (k at words i : �
       let b' : Bare says.saying = subst Bare (sym same) b in
       let apart = bare_apart r rest ls k at words i g b' in
       let n : size_of s ≡ line_size r = sym (ap size_said e) in
-      let F : Saying → Type 0 = λ x. All (Apart at (at + size_of x)) ls in
+      let F : Saying → Type 0 = λ x. AllByRecursion (Apart at (at + size_of x)) ls in
       places_same at (at + size_of s) ls (subst F same apart) rest _ vs (i + 1) ws (omega (arith, longer, n)) on
 
   here_stands : Stands ls ws at r.saying
@@ -218,7 +218,7 @@ module _ (r : Reading) (rest : List Reading) (ls : List Label) (k at words i : �
           let e : at + line_size r + address rest j ≡ at + address (r ∷ rest) (suc j) = omega (arith, sum_by-cons line_size r (take j rest)) in
           subst (λ (a : ℕ). Stands ls ws a (line rest j).saying) e (p.stands j (omega arith))
 
-pub placed_all : (rs : List Reading) (ls : List Label) (k at words i : ℕ) → GatheredOn rs ls k at words i → (us ws : List ℕ) → length us ≡ at → All (λ r. Sound r.saying) rs → places ls rs k us i ≡ Ok ws → PlacedOn rs ls at ws
+pub placed_all : (rs : List Reading) (ls : List Label) (k at words i : ℕ) → GatheredOn rs ls k at words i → (us ws : List ℕ) → length us ≡ at → AllByRecursion (λ r. Sound r.saying) rs → places ls rs k us i ≡ Ok ws → PlacedOn rs ls at ws
 placed_all [] ls k at words i g us ws long sound e =
     let d : us ≡ ws = cc in
     let n : length ws ≡ at = ap length (sym d) ∙ long in

@@ -1,5 +1,5 @@
 use Rattle.std.proofs.Common.{◌≡◌, ℕ, ◌+◌, ◌<◌, ◌≤◌, Bool, true, false, cond, ltb, ◌≢◌, ◌⊎◌, List, [], ◌∷◌, ◌++◌, length, get_or, take, set, replicate, Some, None, Ok, Err, Option, Result, refl, ◌∙◌, subst, inl, inr, arith}
-use Rattle.std.specs.List.{AllByRecursion as All}
+use Rattle.std.specs.List.{AllByRecursion}
 use Rattle.std.proofs.ByRecursion.{All-take}
 use Rattle.std.proofs.lemmas.List.{get_or_append_left, get_or-set_other, length-append, length-set}
 use Rattle.std.proofs.lemmas.Bool.{ltb-true}
@@ -40,7 +40,7 @@ elsewhere lo hi p l h (inr (inr a)) k f g e = omega arith
 abbrev pub Same : ℕ → ℕ → List ℕ → List ℕ → Type 0
 Same lo hi ws us = (length ws ≤ length us) × ((k : ℕ) → lo ≤ k → k < hi → get_or us k 0 ≡ get_or ws k 0)
 
-module _ (lo hi : ℕ) (ls : List Label) (apart : All (Apart lo hi) ls) where
+module _ (lo hi : ℕ) (ls : List Label) (apart : AllByRecursion (Apart lo hi) ls) where
   same_on : (ws us vs : List ℕ) → Same lo hi ws us → Same lo hi us vs → Same lo hi ws vs
   same_on ws us vs f g = let a = f.0 in let b = g.0 in (omega arith, λ k p q. g.1 k p q ∙ f.1 k p q)
 

@@ -1,5 +1,5 @@
 use Rattle.std.specs.Prelude.{◌≡◌, ℕ, ◌+◌, ◌≤◌, cond, List, [], ◌∷◌, ◌++◌, length, take, drop, replicate, Some, None, Ok, Err, Option, Result, nat_le, nat_lt, slice_set}
-use Rattle.std.specs.List.{AllByRecursion as All}
+use Rattle.std.specs.List.{AllByRecursion}
 use Rattle.refusal.specs.declared.Cause.{Cause}
 use Rattle.refusal.specs.declared.Cause.TheVariants.{UnknownName, OutsideVariable, NotGathered, TooManyWords}
 use Rattle.refusal.specs.declared.Refusal.{Refusal}
@@ -89,7 +89,7 @@ pub record GatheredOn (lines : List Reading) (ls : List Label) (k at words i : �
   pub on : gathers slots lines (take k ls) at i ≡ Ok (gathered ls size)
   pub room : size ≤ words
   pub names : k ≤ length ls
-  pub before : All (Before at) (take k ls)
+  pub before : AllByRecursion (Before at) (take k ls)
 
 -- the lines from the i-th on; the first thing wrong decides
 abbrev pub places : List Label → List Reading → ℕ → List ℕ → ℕ → Result (List ℕ) Refusal

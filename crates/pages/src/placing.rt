@@ -1,6 +1,6 @@
 // Placing: a page's words, put into those lent.
 ghost use Rattle.std.specs.Prelude.{◌≡◌, ◌+◌, ◌≤◌, [], ◌++◌, length, take, drop, IfOk, Ok, Err, MatchResult, OnOk};
-ghost use Rattle.std.specs.List.{AllByRecursion as All};
+ghost use Rattle.std.specs.List.{AllByRecursion};
 ghost use Rattle.page_text.specs.Sayings.{line_read};
 ghost use Rattle.pages.specs.Laws.{ProgramIfOk};
 ghost use Rattle.pages.specs.Page.{page};
@@ -38,7 +38,7 @@ fn place_line(
 ) -> Result<usize, Cause>
     requires above { above ≤ length labels.now }
     requires within { Fits program.old.used (length words.old) (line_read line.now).saying }
-    requires before { All (Before program.old.used) (take above labels.now) }
+    requires before { AllByRecursion (Before program.old.used) (take above labels.now) }
     ensures words { MatchResult result
         (λ names. extended labels.now above (take program.old.used words.old) (line_read line.now)
         ≡ Ok (take program.new.used words.new))

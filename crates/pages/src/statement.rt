@@ -1,6 +1,6 @@
 // The words of a statement.
 ghost use Rattle.std.specs.Prelude.{◌≡◌, ◌+◌, ◌≤◌, length, take, drop, Ok, Err, MatchResult, OnOk};
-ghost use Rattle.std.specs.List.{AllByRecursion as All};
+ghost use Rattle.std.specs.List.{AllByRecursion};
 ghost use Rattle.page_text.specs.Sayings.{saying_of};
 ghost use Rattle.pages.specs.Labels.{find_label};
 ghost use Rattle.pages.specs.Page.{size_of};
@@ -47,7 +47,7 @@ fn fix(
 ) -> Result<(), Cause>
     requires above { above ≤ length labels.now }
     requires within { next ≤ length words.old }
-    requires before { All (Before next) (take above labels.now) }
+    requires before { AllByRecursion (Before next) (take above labels.now) }
     ensures words { MatchResult result
         (λ _. with_fixed (find_label (take above labels.now) name.now) (find_label labels.now name.now) index value
         (take next words.old) ≡ Ok (take next words.new))
@@ -82,7 +82,7 @@ pub(crate) fn put_statement(
 ) -> Result<(), Cause>
     requires above { above ≤ length labels.now }
     requires within { program.old.used + size_of (saying_of statement) ≤ length words.old }
-    requires before { All (Before program.old.used) (take above labels.now) }
+    requires before { AllByRecursion (Before program.old.used) (take above labels.now) }
     ensures words { MatchResult result
         (λ _. with_saying labels.now above (take program.old.used words.old) (saying_of statement.entry)
         ≡ Ok (take program.new.used words.new))
