@@ -2,10 +2,10 @@ use Rattle.std.proofs.Common.{◌≡◌, ℕ, zero, suc, ◌+◌, ◌-◌, ◌<�
 use mathlib.Core.Path.{fun_ext}
 use native.Mathlib.Nat.{sub-zero}
 use Rattle.std.proofs.lemmas.List.{take_at, length-append}
-use Rattle.std.proofs.lemmas.Bool.{cases_Bool, cond-true, cond-false, eqb-true, eqb-false, eq-eqb, ne_eqb, lt-ltb, le-ltb, ltb-true, ltb-false}
+use Rattle.std.proofs.lemmas.Bool.{cases_Bool, cond-true, cond-false, eqb-true, eqb-false, ne_eqb, ltb-true, ltb-false}
 use Rattle.refusal.specs.declared.Refusal.{Refusal}
 use Rattle.processor.specs.declared.Side.TheVariants.{Memory}
-use Rattle.processor.specs.Views.{Cell, Cells, View, view, Places, put_into}
+use Rattle.processor.specs.Views.{Cell, View, view, Places, put_into}
 use Rattle.processor.specs.Rules.{State, state}
 use Rattle.session.specs.Opens.{put_all}
 use Rattle.session_log.specs.Logs.{opening}

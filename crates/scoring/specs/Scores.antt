@@ -1,4 +1,4 @@
-use Rattle.std.specs.Prelude.{◌≡◌, ℕ, true, cond, List, length, Some, Ok, Err, Result, nat_lt, slice_index}
+use Rattle.std.specs.Prelude.{ℕ, true, cond, List, length, Some, Ok, Err, Result, nat_lt, slice_index}
 use Rattle.refusal.specs.declared.Refusal.{Refusal}
 use Rattle.processor.specs.Views.{Cells, View, view, Places}
 use Rattle.processor.specs.Rules.{State, state}

@@ -1,4 +1,4 @@
-use Rattle.std.proofs.Common.{◌≡◌, length, ap, ◌∙◌}
+use Rattle.std.proofs.Common.{length, ap, ◌∙◌}
 use Rattle.scoring.proofs.TapedLaws.{plainly, answer_is, after_is}
 use Rattle.scoring.proofs.assembly.write_tape.Goals as goal
 

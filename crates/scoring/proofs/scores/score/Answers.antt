@@ -1,7 +1,5 @@
-use Rattle.std.proofs.Common.{◌≡◌, List, length, Result, sym, ap, ◌∙◌}
+use Rattle.std.proofs.Common.{length, sym, ap, ◌∙◌}
 use native.Mathlib.Nat.{sub-zero}
-use Rattle.refusal.specs.declared.Refusal.{Refusal}
-use Rattle.scoring.specs.Assembly.{assembled}
 use Rattle.scoring.specs.Scores.{score_answer, view_scored}
 use Rattle.scoring.proofs.OpenLaws.{tape_made, page_ran}
 use Rattle.scoring.proofs.scores.score.Goals as goal
