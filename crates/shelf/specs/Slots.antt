@@ -1,5 +1,6 @@
-use Rattle.std.specs.Prelude.{ℕ, ◌+◌, ◌-◌, Bool, cond, ◌&&◌, List, [], ◌∷◌, ◌++◌, length, take, None, Option, nat_le, nat_lt, slice_set}
+use Rattle.std.specs.Prelude.{ℕ, ◌+◌, ◌-◌, Bool, cond, ◌&&◌, List, [], ◌∷◌, ◌++◌, length, take, None, Ok, Err, Option, Result, nat_le, nat_lt, slice_set}
 use Rattle.std.specs.List.{slice_get}
+use Rattle.shelf.specs.declared.Full.{Full}
 
 -- the records on a shelf: those in the first slots, as many as are in use
 abbrev pub records : {X : Type 0} → ℕ → List X → List X
@@ -8,6 +9,10 @@ records used slots = take used slots
 -- a slot is free
 abbrev pub has_room : {X : Type 0} → ℕ → List X → Bool
 has_room used slots = nat_lt used (length slots)
+
+-- a push: done, or refused where no slot is free
+abbrev pub push_answer : {X : Type 0} → ℕ → List X → Result Unit Full
+push_answer used slots = cond (has_room used slots) (Ok tt) (Err (record {}))
 
 -- one record more, in the first free slot
 abbrev pub slots_pushed : {X : Type 0} → ℕ → List X → X → List X
