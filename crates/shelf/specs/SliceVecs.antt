@@ -1,4 +1,4 @@
-use Rattle.std.specs.Prelude.{◌≡◌, ℕ, ◌+◌, ◌≤◌, cond, List, [], ◌∷◌, ◌++◌, length, drop, slice_set, nat_le}
+use Rattle.std.specs.Prelude.{◌≡◌, ℕ, ◌+◌, cond, List, [], ◌∷◌, ◌++◌, length, drop, slice_set}
 use Rattle.shelf.specs.Slots.{records, has_room}
 use Rattle.shelf.specs.declared.slice_vec.SliceVec.{SliceVec}
 

@@ -1,2 +1,3 @@
-mod WriteLaws
+pub mod SumLaws
 pub mod TapeLaws
+pub mod WriteLaws

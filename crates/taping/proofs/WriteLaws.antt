@@ -1,41 +1,36 @@
-use Rattle.std.proofs.Common.{◌≡◌, ℕ, ◌+◌, ◌%◌, ◌<◌, List, [], ◌∷◌, ◌++◌, length, get_or, take, drop, sum, sym, ap, ◌∙◌, subst, arith}
-use native.Mathlib.Nat.{mod-add-mod}
-use Rattle.std.proofs.lemmas.List.{take-append-drop}
-use Rattle.std.proofs.lemmas.List.Sums.{sum_by_more}
-use Rattle.pages.proofs.FrameLaws.{drop_further, still_alone}
+use Rattle.std.proofs.Common.{◌≡◌, ℕ, zero, suc, ◌+◌, ◌-◌, ◌<◌, ◌≤◌, List, [], ◌∷◌, ◌++◌, length, take, drop, sym, ap, ◌∙◌, subst, arith}
+use Rattle.std.proofs.Math.Seq.{take-append_seam}
+use Rattle.std.proofs.lemmas.List.{length-append, length-drop}
+use Rattle.shelf.specs.SliceVecs.{items, free, Extended, pushed}
+use Rattle.shelf.specs.declared.slice_vec.SliceVec.{SliceVec}
+use Rattle.shelf.proofs.SliceVecLaws.{extended_twice, pushed_one}
 use Rattle.taping.specs.Tapes.{checksum, tape_of, HoldsProgram}
 use Rattle.taping.proofs.TapeLaws.{Narrow, tape_holds}
 
--- one word more in the sum
-pub sum_more : (ws : List ℕ) (i : ℕ) → i < length ws → (sum (take i ws) % 65536 + get_or ws i 0) % 65536 ≡ sum (take (i + 1) ws) % 65536
-sum_more ws i h = mod-add-mod (sum (take i ws)) 65536 (get_or ws i 0) ∙ ap (λ (n : ℕ). n % 65536) (sym (sum_by_more (λ (x : ℕ). x) ws i 0 h))
+-- a tape's first word, its program and its last word, put one after another
+module _ (ws : List ℕ) (a b c d : SliceVec ℕ) (room : length ws + 2 ≤ length (free a))
+    (first : Extended a b (pushed a 0x4000_0000)) (words : Extended b c ws) (last : Extended c d (pushed c (0xc000_0000 + checksum ws))) where
+  start : Extended a b (0x4000_0000 ∷ [])
+  start = subst (Extended a b) (pushed_one a 0x4000_0000 (omega arith)) first
 
--- what was put, one part after another: the tapes and the places used before the first part and after each
-module _ (ws tape one two three : List ℕ) (a b c d e : ℕ)
-    (none : a ≡ 0) (b_is : b ≡ a + 1) (c_is : c ≡ b + length ws) (d_is : d ≡ c + 1)
-    (first : take b one ≡ take a tape ++ 0x4000_0000 ∷ []) (first_rest : drop b one ≡ drop b tape)
-    (words : take c two ≡ take b one ++ ws) (words_rest : drop c two ≡ drop c one)
-    (last : take d three ≡ take c two ++ (0xc000_0000 + e) ∷ []) (last_rest : drop d three ≡ drop d two)
-    (sum_is_lem : e ≡ checksum ws) where
-  front : take d three ≡ tape_of ws
-  front =
-      let one_is : take b one ≡ 0x4000_0000 ∷ [] = first ∙ ap (λ (n : ℕ). take n tape ++ 0x4000_0000 ∷ []) none in
-      let F : List ℕ → List ℕ = λ xs. xs ++ ws in
-      let G : List ℕ → List ℕ = λ xs. xs ++ (0xc000_0000 + e) ∷ [] in
-      last ∙ (ap G (words ∙ ap F one_is) ∙ ap (λ (n : ℕ). 0x4000_0000 ∷ (ws ++ (0xc000_0000 + n) ∷ [])) sum_is_lem)
+  end : Extended c d ((0xc000_0000 + checksum ws) ∷ [])
+  end =
+      let left : 0 < length (free c) = omega (arith, ap length start.free, ap length words.free, length-drop 1 (free a), length-drop (length ws) (free b)) in
+      subst (Extended c d) (pushed_one c (0xc000_0000 + checksum ws) left) last
 
-  rest : drop d three ≡ drop (length ws + 2) tape
-  rest =
-      let n : d ≡ length ws + 2 = omega arith in
-      still_alone c d two one three (omega arith) last_rest words_rest
-      ∙ (drop_further b d one tape (omega arith) first_rest
-      ∙ ap (λ (k : ℕ). drop k tape) n)
+  pub tape_put : Extended a d (tape_of ws)
+  tape_put = extended_twice a b d _ _ start (extended_twice b c d _ _ words end)
 
-  pub held : (n : ℕ) → n ≡ d → Narrow ws → HoldsProgram ws (take n three)
-  held n e narrow = subst (HoldsProgram ws) (sym (ap (λ (k : ℕ). take k three) e ∙ front)) (tape_holds ws narrow)
+-- slots that begin with a program's tape hold it
+pub held : (ws more slots : List ℕ) (n : ℕ) → Narrow ws → slots ≡ tape_of ws ++ more → n ≡ length ws + 2 → HoldsProgram ws (take n slots)
+held ws more slots n narrow e k =
+    let long : n ≡ length (tape_of ws) = omega (arith, length-append ws ((0xc000_0000 + checksum ws) ∷ [])) in
+    let front : take n slots ≡ tape_of ws = rw (e, long) (take-append_seam (tape_of ws) more) in
+    subst (HoldsProgram ws) (sym front) (tape_holds ws narrow)
 
-  pub written : three ≡ tape_of ws ++ drop (length ws + 2) tape
-  written =
-      let F : List ℕ → List ℕ = λ xs. xs ++ drop d three in
-      let G : List ℕ → List ℕ = λ xs. tape_of ws ++ xs in
-      sym (take-append-drop d three) ∙ (ap F front ∙ ap G rest)
+-- the front of narrow words is narrow
+pub narrow_front : (n : ℕ) (ws : List ℕ) → Narrow ws → Narrow (take n ws)
+narrow_front zero ws narrow i = omega arith
+narrow_front (suc n) [] narrow i = omega arith
+narrow_front (suc n) (w ∷ ws) narrow zero = narrow 0
+narrow_front (suc n) (w ∷ ws) narrow (suc i) = narrow_front n ws (λ j. narrow (suc j)) i

@@ -1,12 +1,13 @@
 // Taping: a placed program, written as a tape.
 #![tactic(auto)]
 
-ghost use Rattle.std.specs.Prelude.{◌≡◌, ◌+◌, ◌<◌, ◌≤◌, [], ◌∷◌, ◌++◌, length, take, drop, IfOk};
+ghost use Rattle.std.specs.Prelude.{◌≡◌, ◌+◌, ◌≤◌, ◌++◌, length, take, drop, IfOk};
+ghost use Rattle.shelf.specs.SliceVecs.{free, Extended};
 ghost use Rattle.taping.specs.Tapes.{checksum, tape_of, tape_fault, tape_answer, tape_after, HoldsProgram};
 
 use pages::Placed;
 use refusal::{Cause, Refusal};
-use shelf::Shelf;
+use shelf::slice_vec::SliceVec;
 
 // A program that was not taped, handed back, and why.
 #[derive(Drop)]
@@ -19,33 +20,27 @@ pub struct Untaped {
 fn add_up(words: &[u16]) -> u16
     ensures { result ≡ checksum words.now }
 {
-    let mut sum: u16 = 0;
-    for word in words {
-        sum = sum.wrapping_add(*word);
-    }
-    sum
-}
-
-// One word more on the tape.
-fn put(tape: &mut [u32], used: &mut Shelf, word: u32)
-    requires { used.old.used < length tape.old }
-    ensures size { used.new.used ≡ used.old.used + 1 }
-    ensures words { take used.new.used tape.new ≡ take used.old.used tape.old ++ word ∷ [] }
-    ensures rest { drop used.new.used tape.new ≡ drop used.new.used tape.old }
-{
-    let _ = used.push(tape, word);
+    words.iter().fold(0, |sum: u16, word| sum.wrapping_add(*word))
 }
 
 // A kind 0 word for each word of the program.
-fn put_program(tape: &mut [u32], used: &mut Shelf, words: &[u16])
-    requires { used.old.used + length words.now ≤ length tape.old }
-    ensures size { used.new.used ≡ used.old.used + length words.now }
-    ensures words { take used.new.used tape.new ≡ take used.old.used tape.old ++ words.now }
-    ensures rest { drop used.new.used tape.new ≡ drop used.new.used tape.old }
+fn put_program(tape: &mut SliceVec<'_, u32>, words: &[u16])
+    requires { length words.now ≤ length (free tape.old) }
+    ensures { Extended tape.old tape.new words.now }
 {
     for word in words {
-        put(tape, used, *word as u32);
+        let _ = tape.push(u32::from(*word));
     }
+}
+
+// The tape of a program: its first word, the program, and its last word with the sum.
+fn put_tape(tape: &mut SliceVec<'_, u32>, words: &[u16])
+    requires { length words.now + 2 ≤ length (free tape.old) }
+    ensures { Extended tape.old tape.new (tape_of words.now) }
+{
+    let _ = tape.push(0x4000_0000);
+    put_program(tape, words);
+    let _ = tape.push(0xc000_0000 + u32::from(add_up(words)));
 }
 
 // The tape of a program in the first places; how many it takes.
@@ -53,13 +48,10 @@ fn write(words: &[u16], tape: &mut [u32]) -> usize
     requires { length words.now + 2 ≤ length tape.old }
     ensures size { result ≡ length words.now + 2 }
     ensures tape { tape.new ≡ tape_of words.now ++ drop (length words.now + 2) tape.old }
-    ensures holds { HoldsProgram words.now (take result tape.new) }
 {
-    let mut used = Shelf::empty();
-    put(tape, &mut used, 0x4000_0000);
-    put_program(tape, &mut used, words);
-    put(tape, &mut used, 0xc000_0000 + add_up(words) as u32);
-    used.len()
+    let mut places = SliceVec::of(tape);
+    put_tape(&mut places, words);
+    places.len()
 }
 
 // The tape of a placed program: its words are the first of those lent, and its tape goes into the first places. It answers how many places the
