@@ -1,7 +1,7 @@
 // A shelf together with its slots: a list that grows in a lent slice.
-ghost use Rattle.std.specs.Prelude.{◌≡◌, ◌≤◌, length};
+ghost use Rattle.std.specs.Prelude.{◌≡◌, ◌≤◌, length, slice_set};
 ghost use Rattle.std.specs.List.{slice_get};
-ghost use Rattle.shelf.specs.Slots.{push_answer};
+ghost use Rattle.shelf.specs.Slots.{push_answer, records_pushed};
 
 use crate::{Full, Shelf};
 
@@ -14,7 +14,7 @@ pub struct SliceVec<'a, T> {
 }
 
 impl<'a, T> SliceVec<'a, T> {
-    ghost use Rattle.shelf.specs.SliceVecs.{items, free, Extended, pushed, Replaced};
+    ghost use Rattle.shelf.specs.SliceVecs.{items, NowHolds};
 
     // No slot in use.
     pub fn of(slots: &'a mut [T]) -> SliceVec<'a, T>
@@ -35,6 +35,13 @@ impl<'a, T> SliceVec<'a, T> {
         self.shelf.len()
     }
 
+    // How many slots are lent.
+    pub fn capacity(&self) -> usize
+        ensures { result ≡ length self.now.slots.now }
+    {
+        self.slots.len()
+    }
+
     // The records.
     pub fn as_slice(&self) -> &[T]
         ensures { result.now ≡ items self.now }
@@ -47,7 +54,7 @@ impl<'a, T> SliceVec<'a, T> {
     where
         T: Copy,
         ensures answer { result ≡ push_answer self.old.shelf.used self.old.slots.now }
-        ensures after { Extended self.old self.new (pushed self.old item) }
+        ensures after { NowHolds self.old self.new (records_pushed self.old.shelf.used self.old.slots.now item) }
     {
         self.shelf.push(self.slots, item)
     }
@@ -57,7 +64,7 @@ impl<'a, T> SliceVec<'a, T> {
     where
         T: Copy,
         ensures answer { result ≡ slice_get (items self.old) i }
-        ensures after { Replaced self.old self.new i item }
+        ensures after { NowHolds self.old self.new (slice_set (items self.old) i item) }
     {
         if i >= self.len() {
             return None;

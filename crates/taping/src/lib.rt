@@ -2,7 +2,7 @@
 #![tactic(auto)]
 
 ghost use Rattle.std.specs.Prelude.{◌≡◌, ◌+◌, ◌≤◌, ◌++◌, length, take, drop, IfOk};
-ghost use Rattle.shelf.specs.SliceVecs.{free, Extended};
+ghost use Rattle.shelf.specs.SliceVecs.{items, free, NowHolds};
 ghost use Rattle.taping.specs.Tapes.{checksum, tape_of, tape_fault, tape_answer, tape_after, HoldsProgram};
 
 use pages::Placed;
@@ -20,13 +20,15 @@ pub struct Untaped {
 fn add_up(words: &[u16]) -> u16
     ensures { result ≡ checksum words.now }
 {
-    words.iter().fold(0, |sum: u16, word| sum.wrapping_add(*word))
+    words
+        .iter()
+        .fold(0, |sum: u16, word| sum.wrapping_add(*word))
 }
 
 // A kind 0 word for each word of the program.
 fn put_program(tape: &mut SliceVec<'_, u32>, words: &[u16])
     requires { length words.now ≤ length (free tape.old) }
-    ensures { Extended tape.old tape.new words.now }
+    ensures { NowHolds tape.old tape.new (items tape.old ++ words.now) }
 {
     for word in words {
         let _ = tape.push(u32::from(*word));
@@ -36,7 +38,7 @@ fn put_program(tape: &mut SliceVec<'_, u32>, words: &[u16])
 // The tape of a program: its first word, the program, and its last word with the sum.
 fn put_tape(tape: &mut SliceVec<'_, u32>, words: &[u16])
     requires { length words.now + 2 ≤ length (free tape.old) }
-    ensures { Extended tape.old tape.new (tape_of words.now) }
+    ensures { NowHolds tape.old tape.new (items tape.old ++ tape_of words.now) }
 {
     let _ = tape.push(0x4000_0000);
     put_program(tape, words);

@@ -1,4 +1,4 @@
-use Rattle.std.proofs.Common.{ℕ, ◌+◌, length, take, drop, rules}
+use Rattle.std.proofs.Common.{◌+◌, length, take, drop, rules}
 use Rattle.taping.proofs.WriteLaws.{held, narrow_front}
 use Rattle.taping.proofs.tape.Goals as goal
 
