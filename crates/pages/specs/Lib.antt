@@ -2,3 +2,5 @@ pub mod Labels
 pub mod Page
 pub mod Program
 pub mod Laws
+pub mod Room
+pub mod Puts

@@ -1,4 +1,4 @@
-use Rattle.std.specs.Prelude.{ℕ, ◌+◌, ◌%◌, cond, List, [], ◌∷◌, ◌++◌, map, length, drop, replicate, is_some, Some, None, Ok, Err, Option, Result, nat_le, nat_lt}
+use Rattle.std.specs.Prelude.{◌≡◌, ◌≤◌, ℕ, ◌+◌, ◌%◌, cond, List, [], ◌∷◌, ◌++◌, map, length, drop, replicate, is_some, Some, None, Ok, Err, Option, Result, nat_le, nat_lt}
 use Rattle.refusal.specs.declared.Cause.{Cause}
 use Rattle.refusal.specs.declared.Cause.TheVariants.{DuplicateName, TextTooLong, LabelSlotsFull, TooManyWords}
 use Rattle.refusal.specs.declared.Refusal.{Refusal}
@@ -6,6 +6,8 @@ use Rattle.refusal.specs.Numbers.{refused}
 use Rattle.page_tokens.specs.declared.name.Name.{Name}
 use Rattle.page_tokens.specs.Lines.{lines}
 use Rattle.page_text.specs.Sayings.{Saying, nothing, one, two, room, text, fixed, Reading, line_read}
+use Rattle.shelf.specs.SliceVecs.{items, NowHolds}
+use Rattle.shelf.specs.declared.slice_vec.SliceVec.{SliceVec}
 use Rattle.pages.specs.declared.label.Label.{Label}
 use Rattle.pages.specs.declared.line.Gain.{Gain}
 use Rattle.pages.specs.declared.gathering.Gathered.{Gathered}
@@ -42,6 +44,10 @@ abbrev pub name_fault : ℕ → List Label → Option Name → Option Cause
 name_fault slots ls None = None
 name_fault slots ls (Some n) =
     cond (is_some (find_label ls n)) (Some DuplicateName) (cond (nat_lt (length ls) slots) None (Some LabelSlotsFull))
+
+abbrev pub checked_name : Option Cause → Result Unit Cause
+checked_name None = Ok tt
+checked_name (Some c) = Err c
 
 -- the words of a line at the address a: the program has at most 65,536
 abbrev pub sized : Option Name → ℕ → Saying → Result Gain Cause
@@ -110,3 +116,11 @@ gather_answer (Err e) = Err e
 abbrev pub slots_after : Result Gathering Refusal → List Label → List Label
 slots_after (Ok g) slots = g.labels ++ drop (length g.labels) slots
 slots_after (Err e) slots = replicate (length slots) no_label
+
+-- a line gathered: its label, if it has one, in the next slot, and the address after its words; or why it is refused
+abbrev pub GathersLine : SliceVec Label → SliceVec Label → ℕ → Reading → Result ℕ Cause → Type 0
+GathersLine old new a r (Ok next) =
+    (shelved (items old) (gained (length old.slots.now) (items old) a r) ≡ Ok (items new, next))
+    × NowHolds old new (items new)
+    × (length (items old) ≤ length (items new))
+GathersLine old new a r (Err c) = gained (length old.slots.now) (items old) a r ≡ Err c

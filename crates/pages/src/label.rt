@@ -1,11 +1,11 @@
 // Labels: the names of a page and what they stand for.
-ghost use Rattle.std.specs.Prelude.{◌≡◌};
-ghost use Rattle.pages.specs.Labels.{no_label, same_label, find_label};
+ghost use Rattle.std.specs.Prelude.{◌≡◌, take};
+ghost use Rattle.pages.specs.Labels.{no_label, find_label};
 
 use page_tokens::Name;
 
 // A name, the address of its line, and how many words its line's variable has; 0 where the line is no variable.
-#[derive(Clone, Copy)]
+#[derive(Clone, Copy, Debug, PartialEq, Eq)]
 pub struct Label {
     pub name: Name,
     pub address: u16,
@@ -25,23 +25,34 @@ impl Label {
             room: 0,
         }
     }
-
-    // Whether both are the same label.
-    pub fn same(&self, other: &Label) -> bool
-        ensures { result ≡ same_label self.now other.now }
-    {
-        self.name.same(&other.name) && self.address == other.address && self.room == other.room
-    }
 }
 
 // The label with a name, if there is one.
 pub fn find(labels: &[Label], name: &Name) -> Option<Label>
     ensures { result ≡ find_label labels.now name.now }
 {
-    for label in labels {
-        if label.name.same(name) {
-            return Some(*label);
-        }
+    labels.iter().find(|label| label.name == *name).copied()
+}
+
+// The labels of a page, of which so many are on the lines up to one of them.
+#[derive(Clone, Copy, Debug)]
+pub(crate) struct Scope<'a> {
+    pub(crate) labels: &'a [Label],
+    pub(crate) above: usize,
+}
+
+impl Scope<'_> {
+    // The label with a name.
+    pub(crate) fn find(self, name: &Name) -> Option<Label>
+        ensures { result ≡ find_label self.entry.labels.now name.now }
+    {
+        find(self.labels, name)
     }
-    None
+
+    // The label with a name, if it is on a line up to this one.
+    pub(crate) fn find_above(self, name: &Name) -> Option<Label>
+        ensures { result ≡ find_label (take self.entry.above self.entry.labels.now) name.now }
+    {
+        find(self.labels.get(..self.above).unwrap_or(self.labels), name)
+    }
 }

@@ -5,7 +5,6 @@ mod check;
 pub mod gathering;
 pub mod label;
 mod line;
-mod lines;
 pub mod placing;
 mod put;
 mod statement;

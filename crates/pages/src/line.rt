@@ -1,7 +1,7 @@
 // What a line of a page adds to those before it.
-ghost use Rattle.std.specs.Prelude.{◌≡◌, ◌<◌, ◌≤◌, length, IfSome, IfOk};
+ghost use Rattle.std.specs.Prelude.{◌≡◌, ◌<◌, length, IfSome, IfOk};
 ghost use Rattle.page_text.specs.Sayings.{line_read, saying_of};
-ghost use Rattle.pages.specs.Page.{size_of, room_of, name_fault, sized, gain, gained};
+ghost use Rattle.pages.specs.Page.{size_of, room_of, name_fault, checked_name, sized, gain, gained};
 
 use crate::label::{Label, find};
 use page_text::{Statement, read_line};
@@ -9,7 +9,7 @@ use page_tokens::Name;
 use refusal::Cause;
 
 // The label of the line, if it has a name, and the address after its words.
-#[derive(Clone, Copy)]
+#[derive(Clone, Copy, Debug, PartialEq, Eq)]
 pub struct Gain {
     pub label: Option<Label>,
     pub next: usize,
@@ -37,42 +37,31 @@ fn room(statement: Statement<'_>) -> u16
     }
 }
 
-// What is wrong with a line's name, if anything is.
-fn check_name(name: Option<Name>, labels: &[Label], slots: usize) -> Option<Cause>
-    ensures { result ≡ name_fault slots labels.now name }
+// Whether a line's name is new, and a slot is left for it.
+fn check_name(name: Option<Name>, labels: &[Label], slots: usize) -> Result<(), Cause>
+    ensures { result ≡ checked_name (name_fault slots labels.now name) }
 {
-    let name = name?;
-    if find(labels, &name).is_some() {
-        return Some(Cause::DuplicateName);
+    match name {
+        Some(name) if find(labels, &name).is_some() => Err(Cause::DuplicateName),
+        Some(_) if labels.len() >= slots => Err(Cause::LabelSlotsFull),
+        _ => Ok(()),
     }
-    if labels.len() >= slots {
-        return Some(Cause::LabelSlotsFull);
-    }
-    None
 }
 
 // The words of a statement, at an address.
 fn add_words(name: Option<Name>, at: usize, statement: Statement<'_>) -> Result<Gain, Cause>
-    requires { at ≤ 65536 }
-    ensures gain { result ≡ sized name at (saying_of statement.entry) }
-    ensures within { IfOk result (λ g. g.next ≤ 65536) }
+    ensures { result ≡ sized name at (saying_of statement.entry) }
 {
-    let words = size(statement);
-    if words > 65536 - at {
-        return Err(Cause::TooManyWords);
-    }
-    let label = match name {
-        Some(name) => Some(Label {
-            name,
-            address: (at % 65536) as u16,
-            room: room(statement),
-        }),
-        None => None,
-    };
-    Ok(Gain {
-        label,
-        next: at + words,
-    })
+    let next = at
+        .checked_add(size(statement))
+        .filter(|next| *next <= 65536)
+        .ok_or(Cause::TooManyWords)?;
+    let label = name.map(|name| Label {
+        name,
+        address: (at % 65536) as u16,
+        room: room(statement),
+    });
+    Ok(Gain { label, next })
 }
 
 // What the shut definition stands for; a call of this does nothing.
@@ -87,15 +76,11 @@ pub(crate) fn add_line(
     slots: usize,
     at: usize,
 ) -> Result<Gain, Cause>
-    requires { at ≤ 65536 }
     ensures gain { result ≡ gained slots labels.now at (line_read line.now) }
-    ensures within { IfOk result (λ g. g.next ≤ 65536) }
     ensures room { IfOk result (λ g. IfSome g.label (λ l. length labels.now < slots)) }
 {
     gaining(line, labels, slots, at);
     let line = read_line(line);
-    match check_name(line.name, labels, slots) {
-        Some(cause) => Err(cause),
-        None => add_words(line.name, at, line.statement?),
-    }
+    check_name(line.name, labels, slots)?;
+    add_words(line.name, at, line.statement?)
 }

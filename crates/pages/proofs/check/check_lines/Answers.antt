@@ -3,7 +3,7 @@ use Rattle.pages.proofs.CheckLaws.{check_more, check_none, check_all}
 use Rattle.pages.proofs.check.check_lines.Goals as goal
 
 pub loop-line-init : goal.loop-line-init
-loop-line-init c = ((1, refl), omega arith, omega arith, omega arith)
+loop-line-init c = ((1, refl), omega arith, omega arith)
 
 pub loop-line-preserved : goal.loop-line-preserved
 loop-line-preserved c =
@@ -12,9 +12,8 @@ loop-line-preserved c =
     let e = c.in-Some-check_line.ensures in
     let w = l.invariant.0 in (
       (w.0 + 1, check_more c.args.slots.now _ _ _ _ w.0 _ w.1 _ _ _ line.lines e.held),
-      e.within.0,
-      e.within.1,
-      line.within l.invariant.3,
+      e.within,
+      line.within l.invariant.2,
     )
 
 pub returns-in-None : goal.returns-in-None

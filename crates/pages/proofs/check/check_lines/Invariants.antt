@@ -8,7 +8,6 @@ invariant-loop-line l =
     ((i : ℕ) × (gathers (length l.slots) (page_from l.text l.place.at) (take l.so_far.labels l.slots) l.so_far.size i
     ≡ gathers (length l.slots) (page l.text) [] 0 1))
     × (l.so_far.labels ≤ length l.slots)
-    × (l.so_far.size ≤ 65536)
     × (l.place.at ≤ length l.text)
 
 abbrev pub decreases-loop-line : goal.decreases-loop-line
