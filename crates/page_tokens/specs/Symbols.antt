@@ -1,13 +1,14 @@
-use Rattle.std.specs.Prelude.{ℕ, zero, suc, ◌+◌, ◌-◌, ◌*◌, cond, ◌&&◌, List, [], ◌∷◌, length, take, drop, Some, None, Option, ◌==◌, nat_le}
+use Rattle.std.specs.Prelude.{ℕ, Bool, true, false, zero, suc, ◌+◌, ◌-◌, ◌*◌, cond, ◌&&◌, List, [], ◌∷◌, length, take, drop, Some, None, Option, ◌==◌, nat_le}
 use Rattle.std.specs.List.{prefix_len}
 use Rattle.std.specs.Borrow.{Bor}
 use Rattle.std.specs.Option.{option_map}
+use Rattle.std.specs.Str.{bytes_eq}
 use Rattle.page_tokens.specs.declared.class.Class.TheVariants.{Blank, NameStart, NamePart, Digit, Letter}
 use Rattle.page_tokens.specs.declared.name.Name.{Name}
 use Rattle.page_tokens.specs.declared.token.Token.{Token}
 use Rattle.page_tokens.specs.declared.token.Token.TheVariants as token
 use Rattle.page_tokens.specs.Classes.{between, of_class}
-use Rattle.page_tokens.specs.Names.{named}
+use Rattle.page_tokens.specs.Names.{named, same_name}
 
 -- a token as it is meant: what a quoted part says, and not where it lies
 pub data Symbol : Type 0 where
@@ -27,6 +28,84 @@ symbol_of token.Comma = comma
 symbol_of token.Plus = plus
 symbol_of (token.Quoted q) = quoted q.now
 symbol_of token.Malformed = malformed
+
+-- what kind of token a token is
+abbrev pub word_in : Symbol → Option Name
+word_in (word n) = Some n
+word_in (number n) = None
+word_in colon = None
+word_in comma = None
+word_in plus = None
+word_in (quoted q) = None
+word_in malformed = None
+
+abbrev pub number_in : Symbol → Option ℕ
+number_in (word n) = None
+number_in (number n) = Some n
+number_in colon = None
+number_in comma = None
+number_in plus = None
+number_in (quoted q) = None
+number_in malformed = None
+
+abbrev pub is_colon : Symbol → Bool
+is_colon (word n) = false
+is_colon (number n) = false
+is_colon colon = true
+is_colon comma = false
+is_colon plus = false
+is_colon (quoted q) = false
+is_colon malformed = false
+
+abbrev pub is_comma : Symbol → Bool
+is_comma (word n) = false
+is_comma (number n) = false
+is_comma colon = false
+is_comma comma = true
+is_comma plus = false
+is_comma (quoted q) = false
+is_comma malformed = false
+
+abbrev pub is_plus : Symbol → Bool
+is_plus (word n) = false
+is_plus (number n) = false
+is_plus colon = false
+is_plus comma = false
+is_plus plus = true
+is_plus (quoted q) = false
+is_plus malformed = false
+
+abbrev pub is_malformed : Symbol → Bool
+is_malformed (word n) = false
+is_malformed (number n) = false
+is_malformed colon = false
+is_malformed comma = false
+is_malformed plus = false
+is_malformed (quoted q) = false
+is_malformed malformed = true
+
+abbrev pub letters_in : Symbol → Option (List ℕ)
+letters_in (word n) = None
+letters_in (number n) = None
+letters_in colon = None
+letters_in comma = None
+letters_in plus = None
+letters_in (quoted q) = Some q
+letters_in malformed = None
+
+-- whether two tokens say the same
+abbrev pub some_in : {A : Type 0} → (A → Bool) → Option A → Bool
+some_in f None = false
+some_in f (Some a) = f a
+
+abbrev pub same_symbol : Symbol → Symbol → Bool
+same_symbol (word n) s = some_in (same_name n) (word_in s)
+same_symbol (number n) s = some_in (λ m. n == m) (number_in s)
+same_symbol colon s = is_colon s
+same_symbol comma s = is_comma s
+same_symbol plus s = is_plus s
+same_symbol (quoted q) s = some_in (bytes_eq q) (letters_in s)
+same_symbol malformed s = is_malformed s
 
 -- what stands at the front of some bytes, and the bytes after it
 abbrev pub Piece : Type 0
