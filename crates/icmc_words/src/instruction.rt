@@ -6,7 +6,7 @@ ghost use Rattle.icmc_words.specs.Sizes.{size};
 use refusal::{Cause, Refusal};
 
 // When a jump or a call is taken.
-#[derive(Clone, Copy)]
+#[derive(Clone, Copy, Debug, PartialEq, Eq)]
 pub enum Condition {
     Always,
     Equal,
@@ -69,7 +69,7 @@ impl Condition {
 }
 
 // What moves into the places that a shift leaves: zeros, ones, or the bits that fell out.
-#[derive(Clone, Copy)]
+#[derive(Clone, Copy, Debug, PartialEq, Eq)]
 pub enum ShiftKind {
     LeftZeros,
     LeftOnes,
@@ -82,7 +82,7 @@ pub enum ShiftKind {
 // An instruction with its operands in the order in which they are written: registers, 0 to 7; for a shift a register and the count,
 // 0 to 15. Other numbers can be written, and are refused where the instruction is encoded. An address or a number that belongs to it
 // is the word after.
-#[derive(Clone, Copy)]
+#[derive(Clone, Copy, Debug, PartialEq, Eq)]
 pub enum Instruction {
     Nop,
     Rts,

@@ -1,2 +1,1 @@
-mod TableLaws
 pub mod SoundLaws

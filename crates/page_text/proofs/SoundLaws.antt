@@ -7,10 +7,10 @@ use Rattle.icmc_words.specs.Encoded.{encodable}
 use Rattle.icmc_words.specs.Sizes.{size}
 use Rattle.page_tokens.specs.declared.name.Name.{Name}
 use Rattle.page_tokens.specs.Names.{named}
-use Rattle.page_tokens.specs.Symbols.{Symbol, symbols}
+use Rattle.page_tokens.specs.Symbols.{Symbol, word_in, symbols}
 use Rattle.page_tokens.specs.Labels.{label_in, past_label}
 use Rattle.page_text.specs.declared.form.Form.{Form}
-use Rattle.page_text.specs.declared.form.Form.TheVariants.{Alone, One, Two, Three, Push, Pop, Mov, Shift, Load, Loadn, Store, Jump, Call, Var, Text, Static}
+use Rattle.page_text.specs.declared.form.Form.TheVariants.{Alone, One, Two, Three, Stack, Mov, Shift, Load, Store, Jump, Call, Var, Text, Static}
 use Rattle.page_text.specs.declared.form.NoRegisters.{NoRegisters}
 use Rattle.page_text.specs.declared.form.NoRegisters.TheVariants as none
 use Rattle.page_text.specs.declared.form.OneRegister.{OneRegister}
@@ -19,10 +19,14 @@ use Rattle.page_text.specs.declared.form.TwoRegisters.{TwoRegisters}
 use Rattle.page_text.specs.declared.form.TwoRegisters.TheVariants as two_registers
 use Rattle.page_text.specs.declared.form.ThreeRegisters.{ThreeRegisters}
 use Rattle.page_text.specs.declared.form.ThreeRegisters.TheVariants as three_registers
+use Rattle.page_text.specs.declared.form.OnStack.{OnStack}
+use Rattle.page_text.specs.declared.form.OnStack.TheVariants as stack
+use Rattle.page_text.specs.declared.form.Loads.{Loads}
+use Rattle.page_text.specs.declared.form.Loads.TheVariants as load
 use Rattle.page_text.specs.declared.statement.Operand.{Operand}
-use Rattle.page_text.specs.Forms.{on_none, on_one, on_two, on_three}
-use Rattle.page_text.specs.Grammar.{Part, word_in, register, register_or, number, address, name, comma, plus, letters}
-use Rattle.page_text.specs.Sayings.{Saying, one, two, room, text, fixed, then, ended, one_word, two_words, on_stack, mov_from, mov_to, operands, by_form, by_word, statement, line_read}
+use Rattle.page_text.specs.Forms.{on_none, on_one, on_two, on_three, on_stack, on_load}
+use Rattle.page_text.specs.Grammar.{Part, register, register_or, number, address, name, comma, plus, letters}
+use Rattle.page_text.specs.Sayings.{Saying, one, two, room, text, fixed, then, ended, one_word, two_words, mov_from, mov_to, operands, by_form, by_word, statement, line_read}
 use Rattle.page_text.specs.Sound.{Sound}
 use Rattle.page_text.specs.Table.{form_named}
 
@@ -88,9 +92,15 @@ size_three three_registers.Div x y z = refl
 size_three three_registers.Divc x y z = refl
 size_three three_registers.Mod x y z = refl
 
-sound_stack : (f : ℕ → Instruction) (i : Instruction) → ((x : ℕ) → size (f x) ≡ 1) → size i ≡ 1 → (o : Option ℕ) (ss : List Symbol) → Fine (on_stack f i o ss)
-sound_stack f i h s None ss = sound_one i ss s
-sound_stack f i h s (Some x) ss = sound_one (f x) ss (h x)
+size_stack : (f : OnStack) (o : Option ℕ) → size (on_stack f o) ≡ 1
+size_stack stack.Push None = refl
+size_stack stack.Push (Some x) = refl
+size_stack stack.Pop None = refl
+size_stack stack.Pop (Some x) = refl
+
+size_load : (f : Loads) (x : ℕ) → size (on_load f x) ≡ 2
+size_load load.Load x = refl
+size_load load.Loadn x = refl
 
 sound_from : (x : ℕ) (o : Option ℕ) (ss : List Symbol) → Fine (mov_from x o ss)
 sound_from x None ss = sound_one (instruction.MovFromSp x) ss refl
@@ -116,15 +126,12 @@ sound_operands (Two f) ss =
 sound_operands (Three f) ss =
     sound_then (register ss) _ (λ x ss. sound_then (comma ss) _ (λ _ ss. sound_then (register ss) _ (λ y ss. sound_then (comma ss) _ (λ _ ss.
     sound_then (register ss) _ (λ z ss. sound_one (on_three f x y z) ss (size_three f x y z))))))
-sound_operands Push ss = sound_then (register_or (named (codes "fr")) ss) _ (sound_stack instruction.Push instruction.PushFr (λ x. refl) refl)
-sound_operands Pop ss = sound_then (register_or (named (codes "fr")) ss) _ (sound_stack instruction.Pop instruction.PopFr (λ x. refl) refl)
+sound_operands (Stack f) ss = sound_then (register_or (named (codes "fr")) ss) _ (λ o ss. sound_one (on_stack f o) ss (size_stack f o))
 sound_operands Mov ss = sound_then (register_or (named (codes "sp")) ss) _ (λ o ss. sound_then (comma ss) _ (λ _ ss. sound_to o ss))
 sound_operands (Shift k) ss =
     sound_then (register ss) _ (λ x ss. sound_then (comma ss) _ (λ _ ss. sound_then (number ss) _ (λ n ss. sound_one (instruction.Shift k x n) ss refl)))
-sound_operands Load ss =
-    sound_then (register ss) _ (λ x ss. sound_then (comma ss) _ (λ _ ss. sound_then (address ss) _ (λ a ss. sound_two (instruction.Load x) a ss refl)))
-sound_operands Loadn ss =
-    sound_then (register ss) _ (λ x ss. sound_then (comma ss) _ (λ _ ss. sound_then (address ss) _ (λ a ss. sound_two (instruction.Loadn x) a ss refl)))
+sound_operands (Load f) ss =
+    sound_then (register ss) _ (λ x ss. sound_then (comma ss) _ (λ _ ss. sound_then (address ss) _ (λ a ss. sound_two (on_load f x) a ss (size_load f x))))
 sound_operands Store ss =
     sound_then (address ss) _ (λ a ss. sound_then (comma ss) _ (λ _ ss. sound_then (register ss) _ (λ x ss. sound_two (instruction.Store x) a ss refl)))
 sound_operands (Jump k) ss = sound_then (address ss) _ (λ a ss. sound_two (instruction.Jump k) a ss refl)

@@ -1,4 +1,4 @@
-use Rattle.std.specs.Prelude.{ℕ}
+use Rattle.std.specs.Prelude.{ℕ, Option, Some, None}
 use Rattle.icmc_words.specs.declared.instruction.Instruction.{Instruction}
 use Rattle.icmc_words.specs.declared.instruction.Instruction.TheVariants as instruction
 use Rattle.page_text.specs.declared.form.NoRegisters.{NoRegisters}
@@ -9,6 +9,10 @@ use Rattle.page_text.specs.declared.form.TwoRegisters.{TwoRegisters}
 use Rattle.page_text.specs.declared.form.TwoRegisters.TheVariants as two
 use Rattle.page_text.specs.declared.form.ThreeRegisters.{ThreeRegisters}
 use Rattle.page_text.specs.declared.form.ThreeRegisters.TheVariants as three
+use Rattle.page_text.specs.declared.form.OnStack.{OnStack}
+use Rattle.page_text.specs.declared.form.OnStack.TheVariants as stack
+use Rattle.page_text.specs.declared.form.Loads.{Loads}
+use Rattle.page_text.specs.declared.form.Loads.TheVariants as load
 
 -- the instruction of a statement with no operand, or one, two or three registers
 abbrev pub on_none : NoRegisters → Instruction
@@ -44,3 +48,14 @@ on_three three.Mulc x y z = instruction.Mulc x y z
 on_three three.Div x y z = instruction.Div x y z
 on_three three.Divc x y z = instruction.Divc x y z
 on_three three.Mod x y z = instruction.Mod x y z
+
+-- push and pop: of a register, or of fr
+abbrev pub on_stack : OnStack → Option ℕ → Instruction
+on_stack stack.Push None = instruction.PushFr
+on_stack stack.Push (Some x) = instruction.Push x
+on_stack stack.Pop None = instruction.PopFr
+on_stack stack.Pop (Some x) = instruction.Pop x
+
+abbrev pub on_load : Loads → ℕ → Instruction
+on_load load.Load x = instruction.Load x
+on_load load.Loadn x = instruction.Loadn x

@@ -1,66 +1,28 @@
-use Rattle.std.specs.Prelude.{ℕ, ◌-◌, Bool, true, false, cond, ◌&&◌, List, [], ◌∷◌, drop, Some, None, Ok, Err, Option, Result, ◌==◌, nat_le, slice_index}
+use Rattle.std.specs.Prelude.{ℕ, ◌-◌, Bool, true, false, cond, ◌&&◌, List, [], ◌∷◌, Some, None, Ok, Err, Option, Result, MatchResult, ◌≡◌, ◌==◌, nat_le, slice_index}
 use Rattle.refusal.specs.declared.Cause.{Cause}
 use Rattle.refusal.specs.declared.Cause.TheVariants.{Malformed, OutOfRange}
 use Rattle.page_tokens.specs.declared.name.Name.{Name}
+use Rattle.page_tokens.specs.declared.token.Tokens.{Tokens}
 use Rattle.page_tokens.specs.Classes.{between}
 use Rattle.page_tokens.specs.Names.{same_name}
-use Rattle.page_tokens.specs.Symbols.{Symbol, word, number as number_token, colon, comma as comma_token, plus as plus_token, quoted, malformed, symbols}
+use Rattle.page_tokens.specs.Symbols.{Symbol, comma as comma_token, plus as plus_token, word_in, number_in, letters_in, same_symbol, symbols}
 use Rattle.page_text.specs.declared.statement.Operand.{Operand}
 use Rattle.page_text.specs.declared.statement.Operand.TheVariants.{Number, Label}
 
--- the tokens of a line from a place on
-abbrev pub rest : List ℕ → ℕ → List Symbol
-rest line at = symbols (drop at line)
+-- the tokens that are left of a line
+abbrev pub rest : Tokens → List Symbol
+rest ts = symbols ts.rest.now
 
 -- a part of a statement, and the tokens after it
 abbrev pub Part : Type 0 → Type 0
 Part A = Result (A × List Symbol) Cause
 
--- what kind of token a token is
-abbrev pub word_in : Symbol → Option Name
-word_in (word n) = Some n
-word_in (number_token n) = None
-word_in colon = None
-word_in comma_token = None
-word_in plus_token = None
-word_in (quoted q) = None
-word_in malformed = None
+-- a part was read, and other tokens left; or it was refused
+abbrev pub ReadsBy : {A B : Type 0} → (A → B) → Part B → Result A Cause → Tokens → Type 0
+ReadsBy view p r ts = MatchResult r (λ x. p ≡ Ok (view x, rest ts)) (λ e. p ≡ Err e)
 
-abbrev pub number_in : Symbol → Option ℕ
-number_in (word n) = None
-number_in (number_token n) = Some n
-number_in colon = None
-number_in comma_token = None
-number_in plus_token = None
-number_in (quoted q) = None
-number_in malformed = None
-
-abbrev pub is_comma : Symbol → Bool
-is_comma (word n) = false
-is_comma (number_token n) = false
-is_comma colon = false
-is_comma comma_token = true
-is_comma plus_token = false
-is_comma (quoted q) = false
-is_comma malformed = false
-
-abbrev pub is_plus : Symbol → Bool
-is_plus (word n) = false
-is_plus (number_token n) = false
-is_plus colon = false
-is_plus comma_token = false
-is_plus plus_token = true
-is_plus (quoted q) = false
-is_plus malformed = false
-
-abbrev pub letters_in : Symbol → Option (List ℕ)
-letters_in (word n) = None
-letters_in (number_token n) = None
-letters_in colon = None
-letters_in comma_token = None
-letters_in plus_token = None
-letters_in (quoted q) = Some q
-letters_in malformed = None
+abbrev pub Reads : {A : Type 0} → Part A → Result A Cause → Tokens → Type 0
+Reads p r ts = ReadsBy (λ x. x) p r ts
 
 -- what was right, with the tokens that are left
 abbrev pub before : {A : Type 0} → List Symbol → Result A Cause → Part A
@@ -106,13 +68,16 @@ abbrev pub number : List Symbol → Part ℕ
 number [] = Err Malformed
 number (s ∷ ss) = before ss (some_number (number_in s))
 
+-- a sign that has to stand in its place
+abbrev pub sign : Symbol → List Symbol → Part Unit
+sign t [] = Err Malformed
+sign t (s ∷ ss) = cond (same_symbol t s) (Ok (tt, ss)) (Err Malformed)
+
 abbrev pub comma : List Symbol → Part Unit
-comma [] = Err Malformed
-comma (s ∷ ss) = cond (is_comma s) (Ok (tt, ss)) (Err Malformed)
+comma ss = sign comma_token ss
 
 abbrev pub plus : List Symbol → Part Unit
-plus [] = Err Malformed
-plus (s ∷ ss) = cond (is_plus s) (Ok (tt, ss)) (Err Malformed)
+plus ss = sign plus_token ss
 
 abbrev pub some_of : {A : Type 0} → Option A → Result A Cause
 some_of None = Err Malformed

@@ -6,16 +6,16 @@ use Rattle.icmc_words.specs.declared.instruction.Instruction.TheVariants as inst
 use Rattle.icmc_words.specs.Encoded.{encodable}
 use Rattle.page_tokens.specs.declared.name.Name.{Name}
 use Rattle.page_tokens.specs.Names.{named}
-use Rattle.page_tokens.specs.Symbols.{Symbol, symbols}
+use Rattle.page_tokens.specs.Symbols.{Symbol, word_in, symbols}
 use Rattle.page_tokens.specs.Labels.{label_in, past_label}
 use Rattle.page_text.specs.declared.form.Form.{Form}
-use Rattle.page_text.specs.declared.form.Form.TheVariants.{Alone, One, Two, Three, Push, Pop, Mov, Shift, Load, Loadn, Store, Jump, Call, Var, Text, Static}
+use Rattle.page_text.specs.declared.form.Form.TheVariants.{Alone, One, Two, Three, Stack, Mov, Shift, Load, Store, Jump, Call, Var, Text, Static}
 use Rattle.page_text.specs.declared.line.Line.{Line}
 use Rattle.page_text.specs.declared.statement.Operand.{Operand}
 use Rattle.page_text.specs.declared.statement.Statement.{Statement}
 use Rattle.page_text.specs.declared.statement.Statement.TheVariants as stated
-use Rattle.page_text.specs.Forms.{on_none, on_one, on_two, on_three}
-use Rattle.page_text.specs.Grammar.{Part, register, register_or, number, address, name, comma, plus, letters, word_in}
+use Rattle.page_text.specs.Forms.{on_none, on_one, on_two, on_three, on_stack, on_load}
+use Rattle.page_text.specs.Grammar.{Part, register, register_or, number, address, name, comma, plus, letters}
 use Rattle.page_text.specs.Table.{form_named}
 
 -- what a line says: nothing; an instruction, with its second word if it has one; so many words of 0; letters; or a word of a variable
@@ -56,11 +56,6 @@ one_word i ss = cond (encodable i) (ended (one i) ss) (Err OutOfRange)
 abbrev pub two_words : Instruction → Operand → List Symbol → Result Saying Cause
 two_words i o ss = cond (encodable i) (ended (two i o) ss) (Err OutOfRange)
 
--- a register or fr
-abbrev pub on_stack : (ℕ → Instruction) → Instruction → Option ℕ → List Symbol → Result Saying Cause
-on_stack f i None ss = one_word i ss
-on_stack f i (Some x) ss = one_word (f x) ss
-
 -- mov: to sp a register; to a register another, or sp
 abbrev pub mov_from : ℕ → Option ℕ → List Symbol → Result Saying Cause
 mov_from x None ss = one_word (instruction.MovFromSp x) ss
@@ -79,13 +74,11 @@ operands (Two f) ss =
 operands (Three f) ss =
     then (register ss) (λ x ss. then (comma ss) (λ _ ss. then (register ss) (λ y ss. then (comma ss) (λ _ ss. then (register ss) (λ z ss.
     one_word (on_three f x y z) ss)))))
-operands Push ss = then (register_or (named (codes "fr")) ss) (on_stack instruction.Push instruction.PushFr)
-operands Pop ss = then (register_or (named (codes "fr")) ss) (on_stack instruction.Pop instruction.PopFr)
+operands (Stack f) ss = then (register_or (named (codes "fr")) ss) (λ o ss. one_word (on_stack f o) ss)
 operands Mov ss = then (register_or (named (codes "sp")) ss) (λ o ss. then (comma ss) (λ _ ss. mov_to o ss))
 operands (Shift k) ss =
     then (register ss) (λ x ss. then (comma ss) (λ _ ss. then (number ss) (λ n ss. one_word (instruction.Shift k x n) ss)))
-operands Load ss = then (register ss) (λ x ss. then (comma ss) (λ _ ss. then (address ss) (λ a ss. two_words (instruction.Load x) a ss)))
-operands Loadn ss = then (register ss) (λ x ss. then (comma ss) (λ _ ss. then (address ss) (λ a ss. two_words (instruction.Loadn x) a ss)))
+operands (Load f) ss = then (register ss) (λ x ss. then (comma ss) (λ _ ss. then (address ss) (λ a ss. two_words (on_load f x) a ss)))
 operands Store ss = then (address ss) (λ a ss. then (comma ss) (λ _ ss. then (register ss) (λ x ss. two_words (instruction.Store x) a ss)))
 operands (Jump k) ss = then (address ss) (λ a ss. two_words (instruction.Jump k) a ss)
 operands (Call k) ss = then (address ss) (λ a ss. two_words (instruction.Call k) a ss)

@@ -1,14 +1,18 @@
-use Rattle.std.specs.Prelude.{ℕ, cond, List, [], ◌∷◌, Some, None, codes, Option}
+use Rattle.std.specs.Prelude.{ℕ, List, [], ◌∷◌, codes, Option}
+use Rattle.std.specs.Option.{option_map}
+use Rattle.std.specs.List.{find}
 use Rattle.icmc_words.specs.declared.instruction.Condition.TheVariants as condition
 use Rattle.icmc_words.specs.declared.instruction.ShiftKind.TheVariants as shift
 use Rattle.page_tokens.specs.declared.name.Name.{Name}
 use Rattle.page_tokens.specs.Names.{named, same_name}
 use Rattle.page_text.specs.declared.form.Form.{Form}
-use Rattle.page_text.specs.declared.form.Form.TheVariants.{Alone, One, Two, Three, Push, Pop, Mov, Shift, Load, Loadn, Store, Jump, Call, Var, Text, Static}
+use Rattle.page_text.specs.declared.form.Form.TheVariants.{Alone, One, Two, Three, Stack, Mov, Shift, Load, Store, Jump, Call, Var, Text, Static}
 use Rattle.page_text.specs.declared.form.NoRegisters.TheVariants as none
 use Rattle.page_text.specs.declared.form.OneRegister.TheVariants as one
 use Rattle.page_text.specs.declared.form.TwoRegisters.TheVariants as two
 use Rattle.page_text.specs.declared.form.ThreeRegisters.TheVariants as three
+use Rattle.page_text.specs.declared.form.OnStack.TheVariants as stack
+use Rattle.page_text.specs.declared.form.Loads.TheVariants as load
 
 -- a name's letters and a form
 abbrev pub Row : Type 0
@@ -26,8 +30,8 @@ table =
     row (codes "halt") (Alone none.Halt) ∷
     row (codes "clearc") (Alone none.Clearc) ∷
     row (codes "setc") (Alone none.Setc) ∷
-    row (codes "push") Push ∷
-    row (codes "pop") Pop ∷
+    row (codes "push") (Stack stack.Push) ∷
+    row (codes "pop") (Stack stack.Pop) ∷
     row (codes "inc") (One one.Inc) ∷
     row (codes "dec") (One one.Dec) ∷
     row (codes "inchar") (One one.Inchar) ∷
@@ -55,8 +59,8 @@ table =
     row (codes "shiftr1") (Shift shift.RightOnes) ∷
     row (codes "rotl") (Shift shift.RotateLeft) ∷
     row (codes "rotr") (Shift shift.RotateRight) ∷
-    row (codes "load") Load ∷
-    row (codes "loadn") Loadn ∷
+    row (codes "load") (Load load.Load) ∷
+    row (codes "loadn") (Load load.Loadn) ∷
     row (codes "store") Store ∷
     row (codes "jmp") (Jump condition.Always) ∷
     row (codes "jeq") (Jump condition.Equal) ∷
@@ -95,8 +99,7 @@ table =
 
 -- the form of the first row with a name
 abbrev pub find_row : List Row → Name → Option Form
-find_row [] n = None
-find_row (r ∷ rs) n = cond (same_name (record { letters = r.0 }) n) (Some r.1) (find_row rs n)
+find_row rs n = option_map (λ r. r.1) (find (λ r. same_name (record { letters = r.0 }) n) rs)
 
 -- the form of the statement with a name; shut, since the table is long
 unfoldable pub form_named : Name → Option Form

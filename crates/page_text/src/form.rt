@@ -1,11 +1,13 @@
 // What the operands of a statement are, by its name.
-ghost use Rattle.std.specs.Prelude.{◌≡◌, ◌<◌, true};
-ghost use Rattle.icmc_words.specs.Encoded.{encodable};
-ghost use Rattle.page_text.specs.Forms.{on_none, on_one, on_two, on_three};
+ghost use Rattle.std.specs.Prelude.{◌≡◌};
+ghost use Rattle.std.specs.Option.{option_map};
+ghost use Rattle.page_text.specs.Forms.{on_none, on_one, on_two, on_three, on_stack, on_load};
 
+use crate::encodable::Encodable;
+use crate::register::Register;
 use icmc_words::{Condition, Instruction, ShiftKind};
 
-#[derive(Clone, Copy)]
+#[derive(Clone, Copy, Debug, PartialEq, Eq)]
 pub enum NoRegisters {
     Nop,
     Rts,
@@ -15,14 +17,14 @@ pub enum NoRegisters {
     Setc,
 }
 
-#[derive(Clone, Copy)]
+#[derive(Clone, Copy, Debug, PartialEq, Eq)]
 pub enum OneRegister {
     Inc,
     Dec,
     Inchar,
 }
 
-#[derive(Clone, Copy)]
+#[derive(Clone, Copy, Debug, PartialEq, Eq)]
 pub enum TwoRegisters {
     Not,
     Cmp,
@@ -31,7 +33,7 @@ pub enum TwoRegisters {
     Outchar,
 }
 
-#[derive(Clone, Copy)]
+#[derive(Clone, Copy, Debug, PartialEq, Eq)]
 pub enum ThreeRegisters {
     And,
     Or,
@@ -47,8 +49,20 @@ pub enum ThreeRegisters {
     Mod,
 }
 
+#[derive(Clone, Copy, Debug, PartialEq, Eq)]
+pub enum OnStack {
+    Push,
+    Pop,
+}
+
+#[derive(Clone, Copy, Debug, PartialEq, Eq)]
+pub enum Loads {
+    Load,
+    Loadn,
+}
+
 // x, y and z are registers, n is a shift's count, A an address or a number for the second word.
-#[derive(Clone, Copy)]
+#[derive(Clone, Copy, Debug, PartialEq, Eq)]
 pub enum Form {
     Alone(NoRegisters),
     // x
@@ -58,15 +72,13 @@ pub enum Form {
     // x, y, z
     Three(ThreeRegisters),
     // x, or fr
-    Push,
-    Pop,
+    Stack(OnStack),
     // x, y, or x, sp, or sp, x
     Mov,
     // x, #n
     Shift(ShiftKind),
     // x, A
-    Load,
-    Loadn,
+    Load(Loads),
     // A, x
     Store,
     // A
@@ -81,70 +93,94 @@ pub enum Form {
 }
 
 impl NoRegisters {
-    pub(crate) fn instruction(self) -> Instruction
-        ensures value { result ≡ on_none self }
-        ensures within { encodable result ≡ true }
+    pub(crate) fn instruction(self) -> Encodable
+        ensures { result.instruction ≡ on_none self }
     {
-        match self {
+        let instruction = match self {
             NoRegisters::Nop => Instruction::Nop,
             NoRegisters::Rts => Instruction::Rts,
             NoRegisters::Breakp => Instruction::Breakp,
             NoRegisters::Halt => Instruction::Halt,
             NoRegisters::Clearc => Instruction::Clearc,
             NoRegisters::Setc => Instruction::Setc,
-        }
+        };
+        Encodable { instruction }
     }
 }
 
 impl OneRegister {
-    pub(crate) fn instruction(self, x: u8) -> Instruction
-        requires { x < 8 }
-        ensures value { result ≡ on_one self x }
-        ensures within { encodable result ≡ true }
+    pub(crate) fn instruction(self, x: Register) -> Encodable
+        ensures { result.instruction ≡ on_one self x.number }
     {
-        match self {
-            OneRegister::Inc => Instruction::Inc(x),
-            OneRegister::Dec => Instruction::Dec(x),
-            OneRegister::Inchar => Instruction::Inchar(x),
-        }
+        let instruction = match self {
+            OneRegister::Inc => Instruction::Inc(x.number),
+            OneRegister::Dec => Instruction::Dec(x.number),
+            OneRegister::Inchar => Instruction::Inchar(x.number),
+        };
+        Encodable { instruction }
     }
 }
 
 impl TwoRegisters {
-    pub(crate) fn instruction(self, x: u8, y: u8) -> Instruction
-        requires { (x < 8) × (y < 8) }
-        ensures value { result ≡ on_two self x y }
-        ensures within { encodable result ≡ true }
+    pub(crate) fn instruction(self, x: Register, y: Register) -> Encodable
+        ensures { result.instruction ≡ on_two self x.number y.number }
     {
-        match self {
-            TwoRegisters::Not => Instruction::Not(x, y),
-            TwoRegisters::Cmp => Instruction::Cmp(x, y),
-            TwoRegisters::Loadi => Instruction::Loadi(x, y),
-            TwoRegisters::Storei => Instruction::Storei(x, y),
-            TwoRegisters::Outchar => Instruction::Outchar(x, y),
-        }
+        let instruction = match self {
+            TwoRegisters::Not => Instruction::Not(x.number, y.number),
+            TwoRegisters::Cmp => Instruction::Cmp(x.number, y.number),
+            TwoRegisters::Loadi => Instruction::Loadi(x.number, y.number),
+            TwoRegisters::Storei => Instruction::Storei(x.number, y.number),
+            TwoRegisters::Outchar => Instruction::Outchar(x.number, y.number),
+        };
+        Encodable { instruction }
     }
 }
 
 impl ThreeRegisters {
-    pub(crate) fn instruction(self, x: u8, y: u8, z: u8) -> Instruction
-        requires { (x < 8) × ((y < 8) × (z < 8)) }
-        ensures value { result ≡ on_three self x y z }
-        ensures within { encodable result ≡ true }
+    pub(crate) fn instruction(self, x: Register, y: Register, z: Register) -> Encodable
+        ensures { result.instruction ≡ on_three self x.number y.number z.number }
     {
-        match self {
-            ThreeRegisters::And => Instruction::And(x, y, z),
-            ThreeRegisters::Or => Instruction::Or(x, y, z),
-            ThreeRegisters::Xor => Instruction::Xor(x, y, z),
-            ThreeRegisters::Add => Instruction::Add(x, y, z),
-            ThreeRegisters::Addc => Instruction::Addc(x, y, z),
-            ThreeRegisters::Sub => Instruction::Sub(x, y, z),
-            ThreeRegisters::Subc => Instruction::Subc(x, y, z),
-            ThreeRegisters::Mul => Instruction::Mul(x, y, z),
-            ThreeRegisters::Mulc => Instruction::Mulc(x, y, z),
-            ThreeRegisters::Div => Instruction::Div(x, y, z),
-            ThreeRegisters::Divc => Instruction::Divc(x, y, z),
-            ThreeRegisters::Mod => Instruction::Mod(x, y, z),
-        }
+        let instruction = match self {
+            ThreeRegisters::And => Instruction::And(x.number, y.number, z.number),
+            ThreeRegisters::Or => Instruction::Or(x.number, y.number, z.number),
+            ThreeRegisters::Xor => Instruction::Xor(x.number, y.number, z.number),
+            ThreeRegisters::Add => Instruction::Add(x.number, y.number, z.number),
+            ThreeRegisters::Addc => Instruction::Addc(x.number, y.number, z.number),
+            ThreeRegisters::Sub => Instruction::Sub(x.number, y.number, z.number),
+            ThreeRegisters::Subc => Instruction::Subc(x.number, y.number, z.number),
+            ThreeRegisters::Mul => Instruction::Mul(x.number, y.number, z.number),
+            ThreeRegisters::Mulc => Instruction::Mulc(x.number, y.number, z.number),
+            ThreeRegisters::Div => Instruction::Div(x.number, y.number, z.number),
+            ThreeRegisters::Divc => Instruction::Divc(x.number, y.number, z.number),
+            ThreeRegisters::Mod => Instruction::Mod(x.number, y.number, z.number),
+        };
+        Encodable { instruction }
+    }
+}
+
+impl OnStack {
+    // Of a register, or of fr.
+    pub(crate) fn instruction(self, x: Option<Register>) -> Encodable
+        ensures { result.instruction ≡ on_stack self (option_map (λ x. x.number) x) }
+    {
+        let instruction = match (self, x) {
+            (OnStack::Push, Some(x)) => Instruction::Push(x.number),
+            (OnStack::Push, None) => Instruction::PushFr,
+            (OnStack::Pop, Some(x)) => Instruction::Pop(x.number),
+            (OnStack::Pop, None) => Instruction::PopFr,
+        };
+        Encodable { instruction }
+    }
+}
+
+impl Loads {
+    pub(crate) fn instruction(self, x: Register) -> Encodable
+        ensures { result.instruction ≡ on_load self x.number }
+    {
+        let instruction = match self {
+            Loads::Load => Instruction::Load(x.number),
+            Loads::Loadn => Instruction::Loadn(x.number),
+        };
+        Encodable { instruction }
     }
 }

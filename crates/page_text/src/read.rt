@@ -1,231 +1,199 @@
 // Statements read by their forms.
-ghost use Rattle.std.specs.Prelude.{◌≡◌, ◌<◌, true, Some};
-ghost use Rattle.icmc_words.specs.Encoded.{encodable};
-ghost use Rattle.page_text.specs.declared.form.Form.TheVariants.{One, Two, Three, Push, Pop, Mov, Shift, Load, Loadn, Store, Jump, Call, Var, Text, Static};
+ghost use Rattle.std.specs.Prelude.{◌≡◌, Some};
+ghost use Rattle.page_text.specs.declared.form.Form.TheVariants.{One, Two, Three, Stack, Mov, Shift, Load, Store, Jump, Call, Var, Text, Static};
 ghost use Rattle.page_text.specs.Grammar.{rest, address};
 ghost use Rattle.page_text.specs.Sayings.{said, saying_of, then, ended, one_word, two_words, mov_to, operands};
 
-use crate::form::{Form, OneRegister, ThreeRegisters, TwoRegisters};
-use crate::operand::{address, comma, letters, name, number, plus, register, register_or};
-use crate::statement::Statement;
+use crate::encodable::Encodable;
+use crate::form::{Form, Loads, OnStack, OneRegister, ThreeRegisters, TwoRegisters};
+use crate::operand::{address, expect, letters, name, number, register, register_or};
+use crate::register::Register;
+use crate::statement::{Operand, Statement};
 use crate::table::{FR, SP};
-use crate::tokens::next;
 use icmc_words::{Instruction, ShiftKind};
-use page_tokens::Place;
+use page_tokens::{Token, Tokens};
 use refusal::Cause;
 
 // A statement that ends its line here.
-fn end<'a>(line: &[u8], place: &mut Place, statement: Statement<'a>) -> Result<Statement<'a>, Cause>
-    ensures { said result ≡ ended (saying_of statement.entry) (rest line.now place.old.at) }
+fn end<'a>(tokens: &mut Tokens<'_>, statement: Statement<'a>) -> Result<Statement<'a>, Cause>
+    ensures { said result ≡ ended (saying_of statement.entry) (rest tokens.old) }
 {
-    match next(line, place) {
-        None => Ok(statement),
-        Some(_) => Err(Cause::Malformed),
+    if tokens.next().is_some() {
+        return Err(Cause::Malformed);
     }
+    Ok(statement)
 }
 
-// An instruction of one word, with its operands in range, that ends its line here.
-fn one_word<'a>(
-    line: &[u8],
-    place: &mut Place,
-    instruction: Instruction,
+// An instruction of one word that ends its line here.
+fn one_word<'a>(tokens: &mut Tokens<'_>, encodable: Encodable) -> Result<Statement<'a>, Cause>
+    ensures { said result ≡ one_word encodable.instruction (rest tokens.old) }
+{
+    end(tokens, Statement::OneWord(encodable.instruction))
+}
+
+// An instruction of two words that ends its line here.
+fn two_words<'a>(
+    tokens: &mut Tokens<'_>,
+    encodable: Encodable,
+    operand: Operand,
 ) -> Result<Statement<'a>, Cause>
-    requires { encodable instruction ≡ true }
-    ensures { said result ≡ one_word instruction (rest line.now place.old.at) }
+    ensures { said result ≡ two_words encodable.instruction operand (rest tokens.old) }
 {
-    end(line, place, Statement::OneWord(instruction))
+    end(tokens, Statement::TwoWords(encodable.instruction, operand))
 }
 
-fn read_one<'a>(line: &[u8], place: &mut Place, form: OneRegister) -> Result<Statement<'a>, Cause>
-    ensures { said result ≡ operands (One form) (rest line.now place.old.at) }
+fn read_one<'a>(tokens: &mut Tokens<'_>, form: OneRegister) -> Result<Statement<'a>, Cause>
+    ensures { said result ≡ operands (One form) (rest tokens.old) }
 {
-    let x = register(line, place)?;
-    one_word(line, place, form.instruction(x))
+    let x = register(tokens)?;
+    one_word(tokens, form.instruction(x))
 }
 
-fn read_two<'a>(line: &[u8], place: &mut Place, form: TwoRegisters) -> Result<Statement<'a>, Cause>
-    ensures { said result ≡ operands (Two form) (rest line.now place.old.at) }
+fn read_two<'a>(tokens: &mut Tokens<'_>, form: TwoRegisters) -> Result<Statement<'a>, Cause>
+    ensures { said result ≡ operands (Two form) (rest tokens.old) }
 {
-    let x = register(line, place)?;
-    comma(line, place)?;
-    let y = register(line, place)?;
-    one_word(line, place, form.instruction(x, y))
+    let x = register(tokens)?;
+    expect(tokens, Token::Comma)?;
+    let y = register(tokens)?;
+    one_word(tokens, form.instruction(x, y))
 }
 
-fn read_three<'a>(
-    line: &[u8],
-    place: &mut Place,
-    form: ThreeRegisters,
-) -> Result<Statement<'a>, Cause>
-    ensures { said result ≡ operands (Three form) (rest line.now place.old.at) }
+fn read_three<'a>(tokens: &mut Tokens<'_>, form: ThreeRegisters) -> Result<Statement<'a>, Cause>
+    ensures { said result ≡ operands (Three form) (rest tokens.old) }
 {
-    let x = register(line, place)?;
-    comma(line, place)?;
-    let y = register(line, place)?;
-    comma(line, place)?;
-    let z = register(line, place)?;
-    one_word(line, place, form.instruction(x, y, z))
+    let x = register(tokens)?;
+    expect(tokens, Token::Comma)?;
+    let y = register(tokens)?;
+    expect(tokens, Token::Comma)?;
+    let z = register(tokens)?;
+    one_word(tokens, form.instruction(x, y, z))
 }
 
-fn read_shift<'a>(line: &[u8], place: &mut Place, kind: ShiftKind) -> Result<Statement<'a>, Cause>
-    ensures { said result ≡ operands (Shift kind) (rest line.now place.old.at) }
+fn read_shift<'a>(tokens: &mut Tokens<'_>, kind: ShiftKind) -> Result<Statement<'a>, Cause>
+    ensures { said result ≡ operands (Shift kind) (rest tokens.old) }
 {
-    let x = register(line, place)?;
-    comma(line, place)?;
-    let n = number(line, place)?;
+    let x = register(tokens)?;
+    expect(tokens, Token::Comma)?;
+    let n = number(tokens)?;
     if n > 15 {
         return Err(Cause::OutOfRange);
     }
-    one_word(line, place, Instruction::Shift(kind, x, n as u8))
+    let instruction = Instruction::Shift(kind, x.number, n as u8);
+    one_word(tokens, Encodable { instruction })
 }
 
-fn read_push<'a>(line: &[u8], place: &mut Place) -> Result<Statement<'a>, Cause>
-    ensures { said result ≡ operands Push (rest line.now place.old.at) }
+fn read_on_stack<'a>(tokens: &mut Tokens<'_>, form: OnStack) -> Result<Statement<'a>, Cause>
+    ensures { said result ≡ operands (Stack form) (rest tokens.old) }
 {
-    match register_or(line, place, &FR)? {
-        Some(x) => one_word(line, place, Instruction::Push(x)),
-        None => one_word(line, place, Instruction::PushFr),
-    }
-}
-
-fn read_pop<'a>(line: &[u8], place: &mut Place) -> Result<Statement<'a>, Cause>
-    ensures { said result ≡ operands Pop (rest line.now place.old.at) }
-{
-    match register_or(line, place, &FR)? {
-        Some(x) => one_word(line, place, Instruction::Pop(x)),
-        None => one_word(line, place, Instruction::PopFr),
-    }
+    let x = register_or(tokens, &FR)?;
+    one_word(tokens, form.instruction(x))
 }
 
 // To a register: another, or sp.
-fn read_source<'a>(line: &[u8], place: &mut Place, x: u8) -> Result<Statement<'a>, Cause>
-    requires { x < 8 }
-    ensures { said result ≡ mov_to (Some x) (rest line.now place.old.at) }
+fn read_source<'a>(tokens: &mut Tokens<'_>, x: Register) -> Result<Statement<'a>, Cause>
+    ensures { said result ≡ mov_to (Some x.number) (rest tokens.old) }
 {
-    match register_or(line, place, &SP)? {
-        Some(y) => one_word(line, place, Instruction::Mov(x, y)),
-        None => one_word(line, place, Instruction::MovFromSp(x)),
-    }
+    let instruction = match register_or(tokens, &SP)? {
+        Some(y) => Instruction::Mov(x.number, y.number),
+        None => Instruction::MovFromSp(x.number),
+    };
+    one_word(tokens, Encodable { instruction })
 }
 
-fn read_mov<'a>(line: &[u8], place: &mut Place) -> Result<Statement<'a>, Cause>
-    ensures { said result ≡ operands Mov (rest line.now place.old.at) }
+fn read_mov<'a>(tokens: &mut Tokens<'_>) -> Result<Statement<'a>, Cause>
+    ensures { said result ≡ operands Mov (rest tokens.old) }
 {
-    let target = register_or(line, place, &SP)?;
-    comma(line, place)?;
+    let target = register_or(tokens, &SP)?;
+    expect(tokens, Token::Comma)?;
     match target {
-        Some(x) => read_source(line, place, x),
+        Some(x) => read_source(tokens, x),
         None => {
-            let x = register(line, place)?;
-            one_word(line, place, Instruction::MovToSp(x))
+            let x = register(tokens)?;
+            let instruction = Instruction::MovToSp(x.number);
+            one_word(tokens, Encodable { instruction })
         }
     }
 }
 
-fn read_load<'a>(line: &[u8], place: &mut Place) -> Result<Statement<'a>, Cause>
-    ensures { said result ≡ operands Load (rest line.now place.old.at) }
+fn read_load<'a>(tokens: &mut Tokens<'_>, form: Loads) -> Result<Statement<'a>, Cause>
+    ensures { said result ≡ operands (Load form) (rest tokens.old) }
 {
-    let x = register(line, place)?;
-    comma(line, place)?;
-    let operand = address(line, place)?;
-    end(
-        line,
-        place,
-        Statement::TwoWords(Instruction::Load(x), operand),
-    )
+    let x = register(tokens)?;
+    expect(tokens, Token::Comma)?;
+    let operand = address(tokens)?;
+    two_words(tokens, form.instruction(x), operand)
 }
 
-fn read_loadn<'a>(line: &[u8], place: &mut Place) -> Result<Statement<'a>, Cause>
-    ensures { said result ≡ operands Loadn (rest line.now place.old.at) }
+fn read_store<'a>(tokens: &mut Tokens<'_>) -> Result<Statement<'a>, Cause>
+    ensures { said result ≡ operands Store (rest tokens.old) }
 {
-    let x = register(line, place)?;
-    comma(line, place)?;
-    let operand = address(line, place)?;
-    end(
-        line,
-        place,
-        Statement::TwoWords(Instruction::Loadn(x), operand),
-    )
-}
-
-fn read_store<'a>(line: &[u8], place: &mut Place) -> Result<Statement<'a>, Cause>
-    ensures { said result ≡ operands Store (rest line.now place.old.at) }
-{
-    let operand = address(line, place)?;
-    comma(line, place)?;
-    let x = register(line, place)?;
-    end(
-        line,
-        place,
-        Statement::TwoWords(Instruction::Store(x), operand),
-    )
-}
-
-fn read_var<'a>(line: &[u8], place: &mut Place) -> Result<Statement<'a>, Cause>
-    ensures { said result ≡ operands Var (rest line.now place.old.at) }
-{
-    let size = number(line, place)?;
-    if size == 0 {
-        return Err(Cause::OutOfRange);
-    }
-    end(line, place, Statement::Var(size))
-}
-
-fn read_text<'a>(line: &'a [u8], place: &mut Place) -> Result<Statement<'a>, Cause>
-    ensures { said result ≡ operands Text (rest line.now place.old.at) }
-{
-    let letters = letters(line, place)?;
-    end(line, place, Statement::Text(letters))
-}
-
-fn read_static<'a>(line: &[u8], place: &mut Place) -> Result<Statement<'a>, Cause>
-    ensures { said result ≡ operands Static (rest line.now place.old.at) }
-{
-    let name = name(line, place)?;
-    plus(line, place)?;
-    let index = number(line, place)?;
-    comma(line, place)?;
-    let value = number(line, place)?;
-    end(line, place, Statement::Static(name, index, value))
+    let operand = address(tokens)?;
+    expect(tokens, Token::Comma)?;
+    let x = register(tokens)?;
+    let instruction = Instruction::Store(x.number);
+    two_words(tokens, Encodable { instruction }, operand)
 }
 
 // A jump or a call, which has no operand but its address.
-fn read_branch<'a>(
-    line: &[u8],
-    place: &mut Place,
-    instruction: Instruction,
-) -> Result<Statement<'a>, Cause>
-    requires { encodable instruction ≡ true }
-    ensures { said result ≡ then (address (rest line.now place.old.at)) (λ a ss. two_words instruction a ss) }
+fn read_branch<'a>(tokens: &mut Tokens<'_>, instruction: Encodable) -> Result<Statement<'a>, Cause>
+    ensures { said result ≡ then (address (rest tokens.old)) (λ a ss. two_words instruction.instruction a ss) }
 {
-    let operand = address(line, place)?;
-    end(line, place, Statement::TwoWords(instruction, operand))
+    let operand = address(tokens)?;
+    two_words(tokens, instruction, operand)
+}
+
+fn read_var<'a>(tokens: &mut Tokens<'_>) -> Result<Statement<'a>, Cause>
+    ensures { said result ≡ operands Var (rest tokens.old) }
+{
+    let size = number(tokens)?;
+    if size == 0 {
+        return Err(Cause::OutOfRange);
+    }
+    end(tokens, Statement::Var(size))
+}
+
+fn read_text<'a>(tokens: &mut Tokens<'a>) -> Result<Statement<'a>, Cause>
+    ensures { said result ≡ operands Text (rest tokens.old) }
+{
+    let letters = letters(tokens)?;
+    end(tokens, Statement::Text(letters))
+}
+
+fn read_static<'a>(tokens: &mut Tokens<'_>) -> Result<Statement<'a>, Cause>
+    ensures { said result ≡ operands Static (rest tokens.old) }
+{
+    let name = name(tokens)?;
+    expect(tokens, Token::Plus)?;
+    let index = number(tokens)?;
+    expect(tokens, Token::Comma)?;
+    let value = number(tokens)?;
+    end(tokens, Statement::Static(name, index, value))
 }
 
 // The operands of a form.
-pub(crate) fn read_operands<'a>(
-    line: &'a [u8],
-    place: &mut Place,
-    form: Form,
-) -> Result<Statement<'a>, Cause>
-    ensures { said result ≡ operands form (rest line.now place.old.at) }
+pub(crate) fn read_operands<'a>(tokens: &mut Tokens<'a>, form: Form) -> Result<Statement<'a>, Cause>
+    ensures { said result ≡ operands form (rest tokens.old) }
 {
     match form {
-        Form::Alone(form) => one_word(line, place, form.instruction()),
-        Form::One(form) => read_one(line, place, form),
-        Form::Two(form) => read_two(line, place, form),
-        Form::Three(form) => read_three(line, place, form),
-        Form::Push => read_push(line, place),
-        Form::Pop => read_pop(line, place),
-        Form::Mov => read_mov(line, place),
-        Form::Shift(kind) => read_shift(line, place, kind),
-        Form::Load => read_load(line, place),
-        Form::Loadn => read_loadn(line, place),
-        Form::Store => read_store(line, place),
-        Form::Jump(condition) => read_branch(line, place, Instruction::Jump(condition)),
-        Form::Call(condition) => read_branch(line, place, Instruction::Call(condition)),
-        Form::Var => read_var(line, place),
-        Form::Text => read_text(line, place),
-        Form::Static => read_static(line, place),
+        Form::Alone(form) => one_word(tokens, form.instruction()),
+        Form::One(form) => read_one(tokens, form),
+        Form::Two(form) => read_two(tokens, form),
+        Form::Three(form) => read_three(tokens, form),
+        Form::Stack(form) => read_on_stack(tokens, form),
+        Form::Mov => read_mov(tokens),
+        Form::Shift(kind) => read_shift(tokens, kind),
+        Form::Load(form) => read_load(tokens, form),
+        Form::Store => read_store(tokens),
+        Form::Jump(condition) => {
+            let instruction = Instruction::Jump(condition);
+            read_branch(tokens, Encodable { instruction })
+        }
+        Form::Call(condition) => {
+            let instruction = Instruction::Call(condition);
+            read_branch(tokens, Encodable { instruction })
+        }
+        Form::Var => read_var(tokens),
+        Form::Text => read_text(tokens),
+        Form::Static => read_static(tokens),
     }
 }

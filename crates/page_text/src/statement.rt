@@ -3,13 +3,13 @@ use icmc_words::Instruction;
 use page_tokens::Name;
 
 // The second word of an instruction: a number, or the address of a label.
-#[derive(Clone, Copy)]
+#[derive(Clone, Copy, Debug, PartialEq, Eq)]
 pub enum Operand {
     Number(u16),
     Label(Name),
 }
 
-#[derive(Clone, Copy)]
+#[derive(Clone, Copy, Debug, PartialEq, Eq)]
 pub enum Statement<'a> {
     Empty,
     OneWord(Instruction),

@@ -2,7 +2,7 @@
 ghost use Rattle.std.specs.Prelude.{◌≡◌};
 ghost use Rattle.page_text.specs.Table.{find_row, form_named};
 
-use crate::form::{Form, NoRegisters, OneRegister, ThreeRegisters, TwoRegisters};
+use crate::form::{Form, Loads, NoRegisters, OnStack, OneRegister, ThreeRegisters, TwoRegisters};
 use icmc_words::{Condition, ShiftKind};
 use page_tokens::Name;
 
@@ -40,8 +40,14 @@ const ROWS: [([u8; 32], Form); 71] = [
         *b"setc                            ",
         Form::Alone(NoRegisters::Setc),
     ),
-    (*b"push                            ", Form::Push),
-    (*b"pop                             ", Form::Pop),
+    (
+        *b"push                            ",
+        Form::Stack(OnStack::Push),
+    ),
+    (
+        *b"pop                             ",
+        Form::Stack(OnStack::Pop),
+    ),
     (
         *b"inc                             ",
         Form::One(OneRegister::Inc),
@@ -147,8 +153,14 @@ const ROWS: [([u8; 32], Form); 71] = [
         *b"rotr                            ",
         Form::Shift(ShiftKind::RotateRight),
     ),
-    (*b"load                            ", Form::Load),
-    (*b"loadn                           ", Form::Loadn),
+    (
+        *b"load                            ",
+        Form::Load(Loads::Load),
+    ),
+    (
+        *b"loadn                           ",
+        Form::Load(Loads::Loadn),
+    ),
     (*b"store                           ", Form::Store),
     (
         *b"jmp                             ",
@@ -279,13 +291,9 @@ const ROWS: [([u8; 32], Form); 71] = [
 fn find(rows: &[([u8; 32], Form)], name: &Name) -> Option<Form>
     ensures { result ≡ find_row rows.now name.now }
 {
-    for (letters, form) in rows {
-        let row = Name { letters: *letters };
-        if row.same(name) {
-            return Some(*form);
-        }
-    }
-    None
+    rows.iter()
+        .find(|row| row.0 == name.letters)
+        .map(|row| row.1)
 }
 
 // The form of the statement with a name, if there is one.

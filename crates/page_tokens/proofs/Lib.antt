@@ -1,5 +1,4 @@
-mod NameLaws
+pub mod NameLaws
 mod TokenLaws
 pub mod LineLaws
 pub mod SymbolLaws
-pub mod LabelLaws

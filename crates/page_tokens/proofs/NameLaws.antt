@@ -1,18 +1,20 @@
-use Rattle.std.proofs.Common.{◌≡◌, ℕ, suc, ◌+◌, ◌-◌, ◌<◌, ◌≤◌, List, ◌++◌, map, length, get_or, take, set, replicate, ap, ◌∙◌, arith}
+use Rattle.std.proofs.Common.{◌≡◌, ℕ, zero, suc, ◌-◌, ◌∷◌, List, ◌++◌, map, length, drop, replicate, refl, ap, ◌∙◌}
 use Rattle.std.specs.Char.{to_ascii_lowercase}
-use Rattle.std.proofs.lemmas.List.{set_at, length-map, length-take-le, map_more, append_assoc}
+use Rattle.std.proofs.lemmas.List.{drop-replicate, map-append}
+use Rattle.page_tokens.specs.declared.name.Name.{Name}
+use Rattle.page_tokens.specs.Names.{same_name}
+use Rattle.page_tokens.specs.contracts.name.NamePartialEq.TheImpl as TheImpl
 
--- a name's letters so far, the rest blank
-abbrev pub spelled : List ℕ → ℕ → List ℕ
-spelled w i = map to_ascii_lowercase (take i w) ++ replicate (32 - i) 32
+blanks : (n : ℕ) → map to_ascii_lowercase (replicate n 32) ≡ replicate n 32
+blanks zero = refl
+blanks (suc n) = ap (λ ls. 32 ∷ ls) (blanks n)
 
--- one letter more
-pub spell_more : (w : List ℕ) (i : ℕ) → i < length w → length w ≤ 32 → set (spelled w i) i (to_ascii_lowercase (get_or w i 0)) ≡ spelled w (i + 1)
-spell_more w i h k =
-    let front : List ℕ = map to_ascii_lowercase (take i w) in
-    let rest : List ℕ = replicate (32 - (i + 1)) 32 in
-    let room : 32 - i ≡ suc (32 - (i + 1)) = omega arith in
-    let wide : length (map to_ascii_lowercase (take i w)) ≡ i = length-map (take i w) to_ascii_lowercase ∙ length-take-le i w (omega arith) in
-    ap (λ (n : ℕ). set (front ++ replicate n 32) i (to_ascii_lowercase (get_or w i 0))) room
-    ∙ (set_at front 32 rest (to_ascii_lowercase (get_or w i 0)) i wide
-    ∙ rw (map_more to_ascii_lowercase w i 0 h, append_assoc))
+-- a word put in front of blanks, as small letters
+pub lowered : (w : List ℕ) → map to_ascii_lowercase (w ++ drop (length w) (replicate 32 32)) ≡ map to_ascii_lowercase w ++ replicate (32 - length w) 32
+lowered w =
+    map-append to_ascii_lowercase w (drop (length w) (replicate 32 32))
+    ∙ ap (λ ls. map to_ascii_lowercase w ++ ls) (ap (map to_ascii_lowercase) (drop-replicate (length w) 32 32) ∙ blanks (32 - length w))
+
+-- `==` on names compares their letters
+pub eq_by_letters : (m n : Name) → TheImpl.eq-value.it m n ≡ same_name m n
+eq_by_letters m n = refl

@@ -1,9 +1,9 @@
 // Kinds of bytes, and runs of them at the front of others.
-ghost use Rattle.std.specs.Prelude.{◌≡◌, ◌≤◌, length, drop};
+ghost use Rattle.std.specs.Prelude.{◌≡◌, take, drop};
 ghost use Rattle.std.specs.List.{prefix_len};
 ghost use Rattle.page_tokens.specs.Classes.{of_class};
 
-#[derive(Clone, Copy)]
+#[derive(Clone, Copy, Debug, PartialEq, Eq)]
 pub(crate) enum Class {
     // between tokens
     Blank,
@@ -33,22 +33,11 @@ impl Class {
     }
 }
 
-// How many bytes at the front are of a class.
-pub(crate) fn count_front(bytes: &[u8], class: Class) -> usize
-    ensures count { result ≡ prefix_len (of_class class) bytes.now }
-    ensures within { result ≤ length bytes.now }
+// The bytes at the front that are of a class, and those after them.
+pub(crate) fn split_front(bytes: &[u8], class: Class) -> (&[u8], &[u8])
+    ensures front { result.0.now ≡ take (prefix_len (of_class class) bytes.now) bytes.now }
+    ensures left { result.1.now ≡ drop (prefix_len (of_class class) bytes.now) bytes.now }
 {
-    for (i, byte) in bytes.iter().enumerate() {
-        if !class.has(*byte) {
-            return i;
-        }
-    }
-    bytes.len()
-}
-
-// The bytes from a place on; none where it lies past the end.
-pub(crate) fn rest_from(bytes: &[u8], at: usize) -> &[u8]
-    ensures { result.now ≡ drop at bytes.now }
-{
-    if at < bytes.len() { &bytes[at..] } else { &[] }
+    let size = bytes.iter().take_while(|byte| class.has(**byte)).count();
+    bytes.split_at(size)
 }

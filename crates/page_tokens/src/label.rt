@@ -1,49 +1,43 @@
 // The name at a line's beginning.
-ghost use Rattle.std.specs.Prelude.{◌≡◌, ◌+◌, drop, if◌then◌else◌};
-ghost use Rattle.page_tokens.specs.Labels.{label_ahead, label_size};
+ghost use Rattle.std.specs.Prelude.{◌≡◌, Some, unwrap_or};
+ghost use Rattle.page_tokens.specs.Symbols.{symbols};
+ghost use Rattle.page_tokens.specs.Labels.{label_in, past_label};
 
 use crate::name::Name;
-use crate::token::{Place, Token, next_token};
+use crate::token::{Token, Tokens};
 
-// Puts a place back at its end, unless the colon was found.
-struct Look<'a> {
-    place: &'a mut Place,
-    back: Place,
-    found: bool,
+// Puts back the tokens at its end, unless the colon was found: then none are to be put back.
+struct Look<'t, 'a> {
+    tokens: &'t mut Tokens<'a>,
+    back: Option<Tokens<'a>>,
 }
 
-impl Drop for Look<'_> {
+impl Drop for Look<'_, '_> {
     fn drop(self)
-        ensures { self.exit.0.now ≡ (if self.entry.found then self.entry.place.now else self.entry.back) }
+        ensures { self.exit.0.now ≡ unwrap_or self.entry.back self.entry.tokens.now }
     {
-        if !self.found {
-            *self.place = self.back;
+        if let Some(back) = self.back {
+            *self.tokens = back;
         }
-        let Look {
-            place: _,
-            back: _,
-            found: _,
-        } = self;
+        let Look { tokens: _, back: _ } = self;
     }
 }
 
-// The name that stands before a colon at a place, which moves behind the colon; where no colon stands, the place stays.
-pub fn next_label(line: &[u8], place: &mut Place) -> Option<Name>
-    ensures name { result ≡ label_ahead (drop place.old.at line.now) }
-    ensures place { place.new.at ≡ place.old.at + label_size (drop place.old.at line.now) }
-{
-    let back = *place;
-    let mut look = Look {
-        place,
-        back,
-        found: false,
-    };
-    let Some(Token::Word(name)) = next_token(line, look.place) else {
-        return None;
-    };
-    let Some(Token::Colon) = next_token(line, look.place) else {
-        return None;
-    };
-    look.found = true;
-    Some(name)
+impl<'a> Tokens<'a> {
+    // The name that stands before a colon, both of which are then read; where no colon stands, nothing is read.
+    pub fn label(&mut self) -> Option<Name>
+        ensures name { result ≡ label_in (symbols self.old.rest.now) }
+        ensures left { symbols self.new.rest.now ≡ past_label (label_in (symbols self.old.rest.now)) (symbols self.old.rest.now) }
+    {
+        let back = Some(*self);
+        let mut look = Look { tokens: self, back };
+        let Some(Token::Word(name)) = look.tokens.next() else {
+            return None;
+        };
+        let Some(Token::Colon) = look.tokens.next() else {
+            return None;
+        };
+        look.back = None;
+        Some(name)
+    }
 }

@@ -7,7 +7,6 @@ pub mod line;
 pub mod name;
 pub mod token;
 
-pub use label::next_label;
-pub use line::next_line;
+pub use line::Lines;
 pub use name::Name;
-pub use token::{Place, Token, next_token};
+pub use token::{Token, Tokens};

@@ -1,21 +1,40 @@
 // The lines of a text.
-ghost use Rattle.std.specs.Prelude.{◌≡◌, ◌+◌, drop};
-ghost use Rattle.std.specs.Option.{option_map};
-ghost use Rattle.page_tokens.specs.Lines.{first_line, line_size};
+ghost use Rattle.std.specs.Prelude.{◌≡◌, length};
+ghost use Rattle.std.specs.Iterator.{YieldsFirstRef, at_most};
+ghost use Rattle.page_tokens.specs.Lines.{lines};
 
-use crate::class::{Class, count_front, rest_from};
-use crate::token::Place;
+use crate::class::{Class, split_front};
 
-// The next line of a text from a place on, without its end; the place moves behind it. None at the text's end.
-pub fn next_line<'a>(text: &'a [u8], place: &mut Place) -> Option<&'a [u8]>
-    ensures line { option_map (λ x. x.now) result ≡ first_line (drop place.old.at text.now) }
-    ensures place { place.new.at ≡ place.old.at + line_size (drop place.old.at text.now) }
-{
-    let rest = rest_from(text, place.at);
-    if rest.is_empty() {
-        return None;
+// The lines that are left of a text, without their ends.
+#[derive(Clone, Copy, Debug)]
+pub struct Lines<'a> {
+    rest: &'a [u8],
+}
+
+impl<'a> Lines<'a> {
+    pub fn of(text: &'a [u8]) -> Lines<'a>
+        ensures { result.rest.now ≡ text.now }
+    {
+        Lines { rest: text }
     }
-    let size = count_front(rest, Class::InLine);
-    place.at += (size + 1).min(rest.len());
-    Some(&rest[0..size])
+}
+
+impl<'a> Iterator for Lines<'a> {
+    type Item = &'a [u8];
+
+    ghost next_gives = { YieldsFirstRef (λ s. lines s.rest.now) };
+
+    ghost remaining = { λ s. at_most (length s.rest.now) };
+
+    fn next(&mut self) -> Option<&'a [u8]> {
+        if self.rest.is_empty() {
+            return None;
+        }
+        let (line, ended) = split_front(self.rest, Class::InLine);
+        self.rest = match ended.split_first() {
+            Some((_, rest)) => rest,
+            None => ended,
+        };
+        Some(line)
+    }
 }

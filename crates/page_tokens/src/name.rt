@@ -1,9 +1,9 @@
 // Names, as they are compared.
 ghost use Rattle.std.specs.Prelude.{◌≡◌, ◌≤◌, length};
-ghost use Rattle.page_tokens.specs.Names.{named, same_name};
+ghost use Rattle.page_tokens.specs.Names.{named};
 
 // The letters of a name as small letters, filled up with blanks.
-#[derive(Clone, Copy)]
+#[derive(Clone, Copy, Debug, PartialEq, Eq)]
 pub struct Name {
     pub letters: [u8; 32],
 }
@@ -15,16 +15,8 @@ impl Name {
         ensures { result ≡ named word.now }
     {
         let mut letters = [b' '; 32];
-        for (i, byte) in word.iter().enumerate() {
-            letters[i] = byte.to_ascii_lowercase();
-        }
+        letters[..word.len()].copy_from_slice(word);
+        letters.make_ascii_lowercase();
         Name { letters }
-    }
-
-    // Whether both are the same name.
-    pub fn same(&self, other: &Name) -> bool
-        ensures { result ≡ same_name self.now other.now }
-    {
-        self.letters == other.letters
     }
 }

@@ -1,11 +1,12 @@
 // The tokens of a line.
-ghost use Rattle.std.specs.Prelude.{◌≡◌, ◌+◌, ◌<◌, ◌≤◌, length, drop, Some};
-ghost use Rattle.page_tokens.specs.Symbols.{Piece, decimal, piece, symbol_of, symbol_read, piece_of, spoiled, number_piece, quoted_piece, word_piece, piece_by, front_piece, first_piece, first_token};
+ghost use Rattle.std.specs.Prelude.{◌≡◌, ◌≤◌, length};
+ghost use Rattle.std.specs.Iterator.{YieldsFirstBy, item_count};
+ghost use Rattle.page_tokens.specs.Symbols.{decimal, symbol_of, piece_of, front_of, spoiled, number_piece, quoted_piece, word_piece, front_piece, symbols};
 
-use crate::class::{Class, count_front, rest_from};
+use crate::class::{Class, split_front};
 use crate::name::Name;
 
-#[derive(Clone, Copy)]
+#[derive(Clone, Copy, Debug, PartialEq, Eq)]
 pub enum Token<'a> {
     Word(Name),
     // of up to five digits
@@ -18,27 +19,11 @@ pub enum Token<'a> {
     Malformed,
 }
 
-// Where a line is read on.
-#[derive(Clone, Copy)]
-pub struct Place {
-    pub at: usize,
-}
-
-// What stands at the front of some bytes, if it is not their end, and how many bytes it takes.
-#[derive(Clone, Copy)]
-struct Front<'a> {
-    token: Option<Token<'a>>,
-    size: usize,
-}
-
 // A malformed token takes all that is left.
-fn malformed<'a>(rest: &[u8]) -> Front<'a>
-    ensures { piece_of result ≡ spoiled rest.now }
+fn malformed<'a>() -> (Token<'a>, &'a [u8])
+    ensures { piece_of result ≡ spoiled }
 {
-    Front {
-        token: Some(Token::Malformed),
-        size: rest.len(),
-    }
+    (Token::Malformed, &[])
 }
 
 // The value of up to five digits.
@@ -53,104 +38,81 @@ fn value(digits: &[u8]) -> u32
     value
 }
 
-// After `#`.
-fn read_number(rest: &[u8]) -> Front<'_>
-    requires { 0 < length rest.now }
-    ensures piece { piece_of result ≡ number_piece rest.now }
-    ensures within { result.size ≤ length rest.now }
+// The number after `#`, and what follows it.
+fn read_number(tail: &[u8]) -> (Token<'_>, &[u8])
+    ensures { piece_of result ≡ number_piece tail.now }
 {
-    let tail = rest_from(rest, 1);
-    let digits = count_front(tail, Class::Digit);
-    if digits < 1 || digits > 5 {
-        return malformed(rest);
+    let (digits, rest) = split_front(tail, Class::Digit);
+    if digits.is_empty() || digits.len() > 5 {
+        return malformed();
     }
-    Front {
-        token: Some(Token::Number(value(&tail[0..digits]))),
-        size: digits + 1,
+    (Token::Number(value(digits)), rest)
+}
+
+// The letters after a quote up to another, and what follows it.
+fn read_quoted(tail: &[u8]) -> (Token<'_>, &[u8])
+    ensures { piece_of result ≡ quoted_piece tail.now }
+{
+    let (letters, rest) = split_front(tail, Class::Letter);
+    match rest.split_first() {
+        Some((b'"', rest)) => (Token::Quoted(letters), rest),
+        _ => malformed(),
     }
 }
 
-// After a quote.
-fn read_quoted(rest: &[u8]) -> Front<'_>
-    requires { 0 < length rest.now }
-    ensures piece { piece_of result ≡ quoted_piece rest.now }
-    ensures within { result.size ≤ length rest.now }
+fn read_word(bytes: &[u8]) -> (Token<'_>, &[u8])
+    ensures { piece_of result ≡ word_piece bytes.now }
 {
-    let tail = rest_from(rest, 1);
-    let letters = count_front(tail, Class::Letter);
-    if letters < tail.len() && tail[letters] as char == '"' {
-        return Front {
-            token: Some(Token::Quoted(&tail[0..letters])),
-            size: letters + 2,
-        };
-    }
-    malformed(rest)
-}
-
-fn read_word(rest: &[u8]) -> Front<'_>
-    requires { 0 < length rest.now }
-    ensures piece { piece_of result ≡ word_piece rest.now }
-    ensures within { result.size ≤ length rest.now }
-{
-    let size = count_front(rest, Class::NamePart);
-    if !Class::NameStart.has(rest[0]) || size > 32 {
-        return malformed(rest);
-    }
-    Front {
-        token: Some(Token::Word(Name::of(&rest[0..size]))),
-        size,
+    let (word, rest) = split_front(bytes, Class::NamePart);
+    match word.first() {
+        Some(first) if Class::NameStart.has(*first) && word.len() <= 32 => {
+            (Token::Word(Name::of(word)), rest)
+        }
+        _ => malformed(),
     }
 }
 
-// One byte.
-fn sign(token: Token<'_>) -> Front<'_>
-    ensures piece { piece_of result ≡ piece (Some (symbol_of token.entry)) 1 }
+// The token at the front of bytes that begin with no blank, and what follows it; a comment is none.
+fn read_front(bytes: &[u8]) -> Option<(Token<'_>, &[u8])>
+    ensures { front_of result ≡ front_piece bytes.now }
 {
-    Front {
-        token: Some(token),
-        size: 1,
+    let (first, tail) = bytes.split_first()?;
+    match *first as char {
+        ':' => Some((Token::Colon, tail)),
+        ';' => None,
+        '#' => Some(read_number(tail)),
+        ',' => Some((Token::Comma, tail)),
+        '+' => Some((Token::Plus, tail)),
+        '"' => Some(read_quoted(tail)),
+        _ => Some(read_word(bytes)),
     }
 }
 
-// What stands at the front of bytes that begin with no blank.
-fn read_front(rest: &[u8]) -> Front<'_>
-    ensures piece { piece_of result ≡ front_piece rest.now }
-    ensures within { result.size ≤ length rest.now }
-{
-    if rest.is_empty() {
-        return Front {
-            token: None,
-            size: 0,
-        };
-    }
-    match rest[0] as char {
-        ':' => sign(Token::Colon),
-        ';' => Front {
-            token: None,
-            size: rest.len(),
-        },
-        '#' => read_number(rest),
-        ',' => sign(Token::Comma),
-        '+' => sign(Token::Plus),
-        '"' => read_quoted(rest),
-        _ => read_word(rest),
+// The tokens that are left of a line.
+#[derive(Clone, Copy, Debug)]
+pub struct Tokens<'a> {
+    rest: &'a [u8],
+}
+
+impl<'a> Tokens<'a> {
+    pub fn of(line: &'a [u8]) -> Tokens<'a>
+        ensures { result.rest.now ≡ line.now }
+    {
+        Tokens { rest: line }
     }
 }
 
-// What the shut definition stands for; a call of this does nothing.
-fn blanks_come_first(rest: &[u8])
-    ensures { first_token rest.now ≡ first_piece rest.now }
-{}
+impl<'a> Iterator for Tokens<'a> {
+    type Item = Token<'a>;
 
-// The next token of a line from a place on, which moves behind it; none at the line's end.
-pub fn next_token<'a>(line: &'a [u8], place: &mut Place) -> Option<Token<'a>>
-    ensures token { symbol_read result ≡ (first_token (drop place.old.at line.now)).symbol }
-    ensures place { place.new.at ≡ place.old.at + (first_token (drop place.old.at line.now)).size }
-{
-    let rest = rest_from(line, place.at);
-    blanks_come_first(rest);
-    let blanks = count_front(rest, Class::Blank);
-    let front = read_front(rest_from(rest, blanks));
-    place.at += blanks + front.size;
-    front.token
+    ghost next_gives = { YieldsFirstBy symbol_of (λ s. symbols s.rest.now) };
+
+    ghost remaining = { item_count (λ s. symbols s.rest.now) };
+
+    fn next(&mut self) -> Option<Token<'a>> {
+        let (_, rest) = split_front(self.rest, Class::Blank);
+        let (token, rest) = read_front(rest)?;
+        self.rest = rest;
+        Some(token)
+    }
 }

@@ -1,18 +1,11 @@
-use Rattle.std.proofs.Common.{sym}
-use Rattle.page_text.proofs.TableLaws.{find_here, find_more, find_none}
+use Rattle.std.proofs.Common.{rules, tests}
+use Rattle.std.proofs.lemmas.Iterator.{YieldsList-from_slice}
+use Rattle.std.proofs.lemmas.Iterator.Search.{find_from_yields_List}
+use Rattle.page_tokens.specs.Names.{same_name}
 use Rattle.page_text.proofs.table.find.Goals as goal
-
-pub returns-then-same : goal.returns-then-same
-returns-then-same c =
-    let l = c.loop-letters in
-    find_here c.args.rows.now c.args.name.now l.letters-index l.invariant c.loop-letters-test.true (sym c.if-same.ensures)
-
-pub loop-letters-preserved : goal.loop-letters-preserved
-loop-letters-preserved c =
-    let l = c.loop-letters in
-    find_more c.args.rows.now c.args.name.now l.letters-index l.invariant c.loop-letters-test.true (sym c.if-same.ensures)
 
 pub returns : goal.returns
 returns c =
-    let l = c.loop-letters in
-    find_none c.args.rows.now c.args.name.now l.letters-index l.invariant c.loop-letters-test.false
+    let n = c.args.name.now in
+    let f = find_from_yields_List (λ r. same_name (record { letters = r.0 }) n) _ _ c.find.result c.find.ensures.ran (YieldsList-from_slice c.args.rows.now cc) (λ x b q k. search (rules, tests)) in
+    search rules
