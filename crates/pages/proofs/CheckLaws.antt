@@ -6,12 +6,27 @@ use Rattle.refusal.specs.declared.Refusal.{Refusal}
 use Rattle.refusal.specs.Numbers.{refused}
 use Rattle.page_text.specs.Sayings.{Reading}
 use Rattle.pages.specs.declared.check.Progress.{Progress}
+use Rattle.std.specs.Result.{result_ok}
 use Rattle.pages.specs.declared.label.Label.{Label}
+use Rattle.pages.specs.declared.line.Gain.{Gain}
 use Rattle.pages.specs.Labels.{begins_with}
 use Rattle.pages.specs.Page.{gained, shelved, Gathering, gathers}
 use Rattle.pages.specs.Program.{held_line, held}
 use Rattle.pages.proofs.OnLaws.{grows}
 use Rattle.pages.proofs.HeldLaws.{begins_itself, begins_holds, begins_first}
+
+-- a result that is done
+pub ok_some : (x : Result Gain Cause) (g : Gain) → result_ok x ≡ Some g → x ≡ Ok g
+ok_some (Ok h) g e = let d : h ≡ g = cc in ap Ok d
+ok_some (Err c) g e = absurd (let z : ◌≡◌ {A = ℕ} 0 1 = cc in omega arith)
+
+-- a line with no name
+pub held_unnamed : (slots : List Label) (k : ℕ) (g : Gain) (x : Result Gain Cause) → x ≡ Ok g → g.label ≡ None → k ≤ length slots
+    → Some (record { labels = k; size = g.next }) ≡ held_line slots (shelved (take k slots) x)
+held_unnamed slots k g x e n h =
+    let long = length-take-le k slots h in
+    let begin = begins_itself k slots in
+    rw (e, n, begin, long)
 
 module _ (slots : List Label) where
   -- a line whose label is in its slot

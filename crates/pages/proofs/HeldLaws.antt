@@ -45,9 +45,11 @@ begins_more zero (s ∷ slots) l h = last (same_label l s)
 begins_more (suc k) (s ∷ slots) l h = and_true (same_label s s) _ (same_itself s) ∙ begins_more k slots l (omega arith)
 
 -- no slot is left for one more behind all
-pub begins_past : (slots : List Label) (l : Label) → begins_with (slots ++ l ∷ []) slots ≡ false
-begins_past [] l = refl
-begins_past (s ∷ slots) l = and_true (same_label s s) _ (same_itself s) ∙ begins_past slots l
+pub begins_past : (k : ℕ) (slots : List Label) (l : Label) → length slots ≤ k → begins_with (take k slots ++ l ∷ []) slots ≡ false
+begins_past zero [] l h = refl
+begins_past (suc k) [] l h = refl
+begins_past zero (s ∷ slots) l h = absurd (omega arith)
+begins_past (suc k) (s ∷ slots) l h = and_true (same_label s s) _ (same_itself s) ∙ begins_past k slots l (omega arith)
 
 -- slots that begin with labels hold them
 pub begins_holds : (ls slots : List Label) → begins_with ls slots ≡ true → (take (length ls) slots ≡ ls) × (length ls ≤ length slots)

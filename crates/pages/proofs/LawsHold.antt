@@ -1,4 +1,4 @@
-use Rattle.std.proofs.Common.{◌≡◌, ℕ, ◌%◌, ◌≤◌, Bool, true, false, cond, leb, List, [], ◌∷◌, map, length, take, drop, Ok, Err, sum_by, Result, sym, refl, ap, ◌∙◌, subst, zero-add, arith}
+use Rattle.std.proofs.Common.{◌≡◌, ℕ, ◌%◌, ◌≤◌, Bool, true, false, cond, leb, List, [], ◌∷◌, map, length, take, Ok, Err, sum_by, Result, sym, refl, ap, ◌∙◌, subst, zero-add, arith}
 use Rattle.std.specs.List.{AllByRecursion}
 use Rattle.std.proofs.lemmas.Bool.{leb-true}
 use Rattle.refusal.specs.declared.Cause.TheVariants.{TextTooLong, TooManyWords, NotGathered}
@@ -10,7 +10,7 @@ use Rattle.page_text.specs.Sound.{Sound}
 use Rattle.page_text.proofs.SoundLaws.{sound_line}
 use Rattle.pages.specs.declared.label.Label.{Label}
 use Rattle.pages.specs.Labels.{begins_with}
-use Rattle.pages.specs.Page.{Gathering, gathers, page_from, page, gathering}
+use Rattle.pages.specs.Page.{Gathering, gathers, page, gathering}
 use Rattle.pages.specs.Program.{GatheredOn, places, placing_in, placing_by, placing, line_size}
 use Rattle.pages.specs.Laws.{address, line, NamesStand, Stands, ProgramStands, NamesIfOk, ProgramIfOk}
 use Rattle.pages.proofs.HeldLaws.{begins_holds}
@@ -23,8 +23,8 @@ sound_lines [] = tt
 sound_lines (l ∷ ls) = (sound_line l, sound_lines ls)
 
 sound_page : (bytes : List ℕ) → AllByRecursion (λ r. Sound r.saying) (page bytes)
-unfolding page_from
-sound_page bytes = sound_lines (lines (drop 0 bytes))
+unfolding page
+sound_page bytes = sound_lines (lines bytes)
 
 -- the names of a gathered text
 stand_from : (n : ℕ) (rs : List Reading) (g : Gathering) → gathers n rs [] 0 1 ≡ Ok g → NamesStand rs g.labels

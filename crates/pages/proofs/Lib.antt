@@ -1,8 +1,4 @@
-mod FindLaws
-mod NextLaws
-pub mod FrameLaws
 mod GatherLaws
-pub mod PutLaws
 mod FixLaws
 mod OnLaws
 mod PlaceLaws
@@ -13,3 +9,4 @@ mod StandLaws
 mod ProgramLaws
 mod NameLaws
 mod LawsHold
+pub mod PageLaws

@@ -1,4 +1,5 @@
-use Rattle.std.specs.Prelude.{Bool, true, false, cond, ◌&&◌, List, [], ◌∷◌, replicate, Some, None, Option, ◌==◌}
+use Rattle.std.specs.Prelude.{Bool, true, false, ◌&&◌, List, [], ◌∷◌, replicate, Option, ◌==◌}
+use Rattle.std.specs.List.{find}
 use Rattle.page_tokens.specs.declared.name.Name.{Name}
 use Rattle.page_tokens.specs.Names.{same_name}
 use Rattle.pages.specs.declared.label.Label.{Label}
@@ -12,8 +13,7 @@ same_label l m = same_name l.name m.name && l.address == m.address && l.room == 
 
 -- the label with a name
 abbrev pub find_label : List Label → Name → Option Label
-find_label [] n = None
-find_label (l ∷ ls) n = cond (same_name l.name n) (Some l) (find_label ls n)
+find_label ls n = find (λ l. same_name l.name n) ls
 
 -- whether slots begin with these labels
 abbrev pub begins_with : List Label → List Label → Bool

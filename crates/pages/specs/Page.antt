@@ -78,6 +78,11 @@ abbrev pub shelved : List Label → Result Gain Cause → Result (List Label × 
 shelved ls (Ok g) = Ok (with_label ls g.label, g.next)
 shelved ls (Err c) = Err c
 
+-- a refusal tells the line's number
+abbrev pub on_line : {A : Type 0} → ℕ → Result A Cause → Result A Refusal
+on_line i (Ok x) = Ok x
+on_line i (Err c) = Err (refused c i)
+
 -- the names of a page and how many words it takes
 pub record Gathering : Type 0 where
   pub labels : List Label
@@ -92,17 +97,9 @@ gathers slots [] ls a i = Ok (gathered ls a)
 gathers slots (l ∷ rest) ls a i =
     elim (shelved ls (gained slots ls a l)) [ Ok p ↦ gathers slots rest p.0 p.1 (i + 1) | Err c ↦ Err (refused c i) ]
 
--- what the lines of a text say, from a place on
-unfoldable pub page_from : List ℕ → ℕ → List Reading
-page_from bytes at = map line_read (lines (drop at bytes))
-
-abbrev pub page : List ℕ → List Reading
-page bytes = page_from bytes 0
-
--- a first line and those after it
-abbrev pub reads_first : Option (List ℕ) → List Reading → List Reading
-reads_first None rs = []
-reads_first (Some l) rs = line_read l ∷ rs
+-- what the lines of a text say
+unfoldable pub page : List ℕ → List Reading
+page bytes = map line_read (lines bytes)
 
 -- gathering a text with so many label slots
 abbrev pub gathering : List ℕ → ℕ → Result Gathering Refusal
@@ -117,10 +114,10 @@ abbrev pub slots_after : Result Gathering Refusal → List Label → List Label
 slots_after (Ok g) slots = g.labels ++ drop (length g.labels) slots
 slots_after (Err e) slots = replicate (length slots) no_label
 
--- a line gathered: its label, if it has one, in the next slot, and the address after its words; or why it is refused
-abbrev pub GathersLine : SliceVec Label → SliceVec Label → ℕ → Reading → Result ℕ Cause → Type 0
-GathersLine old new a r (Ok next) =
+-- the i-th line gathered: its label, if it has one, in the next slot, and the address after its words; or why it is refused
+abbrev pub GathersLine : SliceVec Label → SliceVec Label → ℕ → ℕ → Reading → Result ℕ Refusal → Type 0
+GathersLine old new a i r (Ok next) =
     (shelved (items old) (gained (length old.slots.now) (items old) a r) ≡ Ok (items new, next))
     × NowHolds old new (items new)
     × (length (items old) ≤ length (items new))
-GathersLine old new a r (Err c) = gained (length old.slots.now) (items old) a r ≡ Err c
+GathersLine old new a i r (Err e) = on_line i (gained (length old.slots.now) (items old) a r) ≡ Err e

@@ -21,7 +21,7 @@ fn is_next(label: Label, slots: &[Label], found: usize) -> bool
     requires { found ≤ length slots.now }
     ensures { result ≡ begins_with (take found slots.now ++ label ∷ []) slots.now }
 {
-    slots.get(found).is_some_and(|slot| *slot == label)
+    found < slots.len() && label == slots[found]
 }
 
 // A line whose label, if it has one, is in the next slot; none where it is not, or the line is refused.
@@ -32,10 +32,17 @@ fn check_line(line: &[u8], slots: &[Label], so_far: Progress) -> Option<Progress
     ensures within { IfSome result (λ p. p.labels ≤ length slots.now) }
 {
     let found = so_far.labels;
-    let Gain { label, next: size } =
-        add_line(line, &slots[..found], slots.len(), so_far.size).ok()?;
+    let Gain { label, next: size } = add_line(
+        line,
+        &slots[..found],
+        slots.len(),
+        so_far.size,
+    ).ok()?;
     let Some(label) = label else {
-        return Some(Progress { labels: found, size });
+        return Some(Progress {
+            labels: found,
+            size,
+        });
     };
     is_next(label, slots, found).then_some(Progress {
         labels: found + 1,

@@ -31,10 +31,13 @@ fn gather_line(
     line: &[u8],
     labels: &mut SliceVec<'_, Label>,
     at: usize,
-) -> Result<usize, Cause>
-    ensures { GathersLine labels.old labels.new at (line_read line.now) result }
+    number: usize,
+) -> Result<usize, Refusal>
+    ensures { GathersLine labels.old labels.new at number (line_read line.now) result }
 {
-    let gain = add_line(line, labels.as_slice(), labels.capacity(), at)?;
+    let gain = add_line(line, labels.as_slice(), labels.capacity(), at).map_err(|cause| cause.at(
+        number,
+    ))?;
     if let Some(label) = gain.label {
         let _ = labels.push(label);
     }
@@ -49,7 +52,7 @@ fn gather_lines(text: &[u8], slots: &mut [Label]) -> Result<Gathered, Refusal>
     let mut labels = SliceVec::of(slots);
     let mut size = 0;
     for (i, line) in Lines::of(text).enumerate() {
-        size = gather_line(line, &mut labels, size).map_err(|cause| cause.at(i + 1))?;
+        size = gather_line(line, &mut labels, size, i + 1)?;
     }
     Ok(Gathered {
         labels: labels.len(),

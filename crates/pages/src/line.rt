@@ -1,7 +1,7 @@
 // What a line of a page adds to those before it.
 ghost use Rattle.std.specs.Prelude.{◌≡◌, ◌<◌, length, IfSome, IfOk};
 ghost use Rattle.page_text.specs.Sayings.{line_read, saying_of};
-ghost use Rattle.pages.specs.Page.{size_of, room_of, name_fault, checked_name, sized, gain, gained};
+ghost use Rattle.pages.specs.Page.{size_of, room_of, labelled, name_fault, checked_name, sized, gain, gained};
 
 use crate::label::{Label, find};
 use page_text::{Statement, read_line};
@@ -48,20 +48,29 @@ fn check_name(name: Option<Name>, labels: &[Label], slots: usize) -> Result<(), 
     }
 }
 
+// The label of a line at an address, if the line has a name.
+fn label_of(name: Option<Name>, at: usize, statement: Statement<'_>) -> Option<Label>
+    ensures { result ≡ labelled (saying_of statement.entry) at name }
+{
+    Some(Label {
+        name: name?,
+        address: (at % 65536) as u16,
+        room: room(statement),
+    })
+}
+
 // The words of a statement, at an address.
 fn add_words(name: Option<Name>, at: usize, statement: Statement<'_>) -> Result<Gain, Cause>
     ensures { result ≡ sized name at (saying_of statement.entry) }
 {
-    let next = at
-        .checked_add(size(statement))
-        .filter(|next| *next <= 65536)
-        .ok_or(Cause::TooManyWords)?;
-    let label = name.map(|name| Label {
-        name,
-        address: (at % 65536) as u16,
-        room: room(statement),
-    });
-    Ok(Gain { label, next })
+    let next = at.saturating_add(size(statement));
+    if next > 65536 {
+        return Err(Cause::TooManyWords);
+    }
+    Ok(Gain {
+        label: label_of(name, at, statement),
+        next,
+    })
 }
 
 // What the shut definition stands for; a call of this does nothing.

@@ -1,17 +1,17 @@
 // Placing: a page's words, put into those lent.
 ghost use Rattle.std.specs.Prelude.{◌≡◌, ◌≤◌, [], length, IfOk, OnOk};
-ghost use Rattle.page_text.specs.Sayings.{line_read};
+ghost use Rattle.page_text.specs.Sayings.{line_read, reading_of};
 ghost use Rattle.shelf.specs.SliceVecs.{items};
 ghost use Rattle.pages.specs.Laws.{ProgramIfOk};
 ghost use Rattle.pages.specs.Puts.{Puts};
-ghost use Rattle.pages.specs.Page.{page};
+ghost use Rattle.pages.specs.Page.{page, on_line};
 ghost use Rattle.pages.specs.Program.{with_line, extended, Fits, names_with, line_size, GatheredOn, places, placing, place_answer, words_after, slots_left};
 
 use crate::check::check;
 use crate::gathering::Gathered;
 use crate::label::{Label, Scope};
 use crate::statement::put_statement;
-use page_text::read_line;
+use page_text::{Line, read_line};
 use page_tokens::Lines;
 use refusal::{Cause, Refusal};
 use shelf::slice_vec::SliceVec;
@@ -28,21 +28,31 @@ fn extending(line: &[u8], scope: Scope<'_>, words: &[u16])
         ≡ with_line scope.entry.labels.now scope.entry.above words.now (line_read line.now).saying }
 {}
 
-// Puts the words of a line; answers how many labels are on the lines up to it.
+// Puts the words of a line.
+fn put_line(line: Line<'_>, scope: Scope<'_>, program: &mut SliceVec<'_, u16>) -> Result<(), Cause>
+    requires { Fits (length (items program.old)) (length program.old.slots.now) (reading_of line).saying }
+    ensures { Puts program.old program.new (line_size (reading_of line.entry)) (with_line scope.entry.labels.now scope.entry.above
+        (items program.old) (reading_of line.entry).saying) result }
+{
+    put_statement(line.statement?, scope, program)
+}
+
+// Puts the words of a line of a text; answers how many labels are on the lines up to it.
 fn place_line(
     line: &[u8],
     scope: Scope<'_>,
     program: &mut SliceVec<'_, u16>,
-) -> Result<usize, Cause>
+    number: usize,
+) -> Result<usize, Refusal>
     requires above { scope.above ≤ length scope.labels.now }
     requires within { Fits (length (items program.old)) (length program.old.slots.now) (line_read line.now).saying }
-    ensures words { Puts program.old program.new (line_size (line_read line.now))
-        (extended scope.entry.labels.now scope.entry.above (items program.old) (line_read line.now)) result }
+    ensures words { Puts program.old program.new (line_size (line_read line.now)) (on_line number
+        (extended scope.entry.labels.now scope.entry.above (items program.old) (line_read line.now))) result }
     ensures names { IfOk result (λ names. names ≡ names_with scope.entry.above (line_read line.now).name) }
 {
     extending(line, scope, program.as_slice());
     let line = read_line(line);
-    put_statement(line.statement?, scope, program)?;
+    put_line(line, scope, program).map_err(|cause| cause.at(number))?;
     Ok(scope.above + usize::from(line.name.is_some()))
 }
 
@@ -55,8 +65,7 @@ fn place_lines(text: &[u8], labels: &[Label], words: &mut [u16]) -> Result<Place
     let mut program = SliceVec::of(words);
     let mut above = 0;
     for (i, line) in Lines::of(text).enumerate() {
-        above = place_line(line, Scope { labels, above }, &mut program)
-            .map_err(|cause| cause.at(i + 1))?;
+        above = place_line(line, Scope { labels, above }, &mut program, i + 1)?;
     }
     Ok(Placed {
         size: program.len(),

@@ -1,36 +1,50 @@
-use Rattle.std.proofs.Common.{Err, ap, ◌∙◌, arith}
+use Rattle.std.proofs.Common.{◌≡◌, ◌+◌, [], ◌∷◌, ap, ◌∙◌, rules}
+use Rattle.std.proofs.lemmas.Result.{err_from_is_err_and}
+use Rattle.shelf.proofs.SliceVecLaws.{holds_on, holds_all}
+use Rattle.page_tokens.specs.Lines.{lines}
 use Rattle.pages.specs.Page.{gather_answer}
-use Rattle.pages.proofs.FrameLaws.{still_alone}
-use Rattle.pages.proofs.GatherLaws.{gathers_more, gathers_refused, gathers_all, all_answered, all_kept}
+use Rattle.pages.proofs.PageLaws.{page_first, page_none}
+use Rattle.pages.proofs.GatherLaws.{gathers_more, gathers_refused, gathers_all}
 use Rattle.pages.proofs.gathering.gather_lines.Goals as goal
 
-pub loop-line-preserved : goal.loop-line-preserved
-loop-line-preserved c =
-    let l = c.loop-line in
-    let line = c.in-Some.ensures in
-    let e = c.in-Ok.ensures in
-    let within = line.within l.invariant.4 in
-    let moves = line.moves in (
-      gathers_more _ _ _ _ _ _ l.invariant.0 _ _ _ _ _ l.auto.slots line.lines e.step,
-      e.used,
-      still_alone _ _ _ _ _ e.grows e.rest l.invariant.2,
-      e.within,
-      within,
-      omega arith,
-    )
-
-pub returns-in-Err : goal.returns-in-Err
-returns-in-Err c =
-    let l = c.loop-line in
-    let line = c.in-Some.ensures in
-    let w = gathers_refused _ _ _ _ _ _ l.invariant.0 _ _ _ _ l.auto.slots line.lines c.in-Err.ensures.step in
-    record { answer = ap Err c.at.ensures ∙ ap gather_answer w; slots = tt }
-
-pub returns : goal.returns
-returns c =
-    let l = c.loop-line in
-    let all = gathers_all _ _ _ _ _ _ l.invariant.0 c.in_default.ensures.lines in
+pub loop-i-preserved : goal.loop-i-preserved
+loop-i-preserved c =
+    let l = c.loop-i in
+    let old = l.i-iterator in
+    let new = c.next.new.self in
+    let first : lines old.iter.rest.now ≡ c.in-Some.line.now ∷ lines new.iter.rest.now = search rules in
+    let next : new.count ≡ old.count + 1 = search rules in
+    let e = c.in_ok-size.ensures in
     record {
-      answer = rw c.len.ensures (all_answered l.slots c.args.slots.now _ _ _ l.invariant.1 l.invariant.2 all);
-      slots = all_kept l.slots c.args.slots.now _ _ _ l.invariant.1 l.invariant.2 all;
+      can = search rules;
+      ends = search rules;
+      gathers = rw next (gathers_more _ _ _ _ _ _ l.invariant.gathers _ _ _ _ _ l.invariant.slots (page_first _ _ _ first) e.0);
+      slots = e.1.slots ∙ l.invariant.slots;
+      holds = holds_on _ _ _ _ _ l.invariant.holds e.1 e.2;
     }
+
+pub returns-in_err-size-clause-answer : goal.returns-in_err-size-clause-answer
+returns-in_err-size-clause-answer c =
+    let l = c.loop-i in
+    let old = l.i-iterator in
+    let new = c.next.new.self in
+    let first : lines old.iter.rest.now ≡ c.in-Some.line.now ∷ lines new.iter.rest.now = search rules in
+    let here : c.in-Some.i ≡ old.count = search rules in
+    let p = err_from_is_err_and c.from_residual.result c.from_residual.ensures.1 in
+    let refused = rw here at c.in_err-size.ensures in
+    rw (p.1, p.2) (ap gather_answer (gathers_refused _ _ _ _ _ _ l.invariant.gathers _ _ _ _ l.invariant.slots (page_first _ _ new.iter.rest.now first) refused))
+
+pub returns-clause-answer : goal.returns-clause-answer
+returns-clause-answer c =
+    let l = c.loop-i in
+    let none : lines l.i-iterator.iter.rest.now ≡ [] = search rules in
+    let all = gathers_all _ _ _ _ _ _ l.invariant.gathers (page_none _ none) in
+    rw (c.len.ensures, all)
+
+pub returns-clause-slots : goal.returns-clause-slots
+returns-clause-slots c =
+    let l = c.loop-i in
+    let none : lines l.i-iterator.iter.rest.now ≡ [] = search rules in
+    let all = gathers_all _ _ _ _ _ _ l.invariant.gathers (page_none _ none) in
+    let kept = holds_all _ _ _ l.invariant.holds in
+    rw all (search rules)

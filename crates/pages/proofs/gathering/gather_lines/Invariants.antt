@@ -1,17 +1,16 @@
-use Rattle.std.proofs.Common.{◌≡◌, ◌+◌, ◌-◌, ◌≤◌, [], length, take, drop}
-use Rattle.pages.specs.Page.{gathers, page, page_from}
+use Rattle.std.proofs.Common.{◌≡◌, ◌+◌, [], length}
+use Rattle.shelf.specs.SliceVecs.{items, NowHolds}
+use Rattle.pages.specs.Page.{gathers, page}
 use Rattle.pages.proofs.gathering.gather_lines.Given as goal
 
--- the lines that are left gather to what all do, from the labels in the slots; a line takes a byte or more
-abbrev pub invariant-loop-line : goal.invariant-loop-line
-invariant-loop-line l =
-    (gathers (length l.initial.slots) (page_from l.text l.place.at) (take l.labels.used l.slots) l.size l.number
-    ≡ gathers (length l.initial.slots) (page l.text) [] 0 1)
-    × (l.labels.used ≤ length l.slots)
-    × (drop l.labels.used l.slots ≡ drop l.labels.used l.initial.slots)
-    × (l.size ≤ 65536)
-    × (l.place.at ≤ length l.text)
-    × (l.number ≤ l.place.at + 1)
-
-abbrev pub decreases-loop-line : goal.decreases-loop-line
-decreases-loop-line l = length l.text - l.place.at
+-- the lines that are left gather to what all do, from the labels gathered so far
+abbrev pub invariant-loop-i : goal.invariant-loop-i
+invariant-loop-i l = record {
+  can : (goal.iterator-loop-i).can_next l.i-iterator;
+  ends : (goal.iterator-loop-i).is_finite l.i-iterator;
+  gathers :
+      gathers (length l.fn.slots) (page l.i-iterator.iter.rest.now) (items l.labels) l.size (l.i-iterator.count + 1)
+      ≡ gathers (length l.fn.slots) (page l.text) [] 0 1;
+  slots : length l.labels.slots.now ≡ length l.fn.slots;
+  holds : NowHolds l.initial.labels l.labels (items l.labels);
+}
