@@ -148,10 +148,3 @@ module _ (r : Reading) (rest : List Reading) (ls : List Label) (k at words i : �
             (with_label_before went.says.saying at (at + size_of went.says.saying) r.name (take k ls) refl
             (All-weaker (Before at) (Before (at + size_of went.says.saying)) (λ l h. omega arith) (take k ls) g.before));
       }
-
--- what was placed so far lies within the words lent
-pub at_within : (rs : List Reading) (ls : List Label) (k at words i : ℕ) → GatheredOn rs ls k at words i → at ≤ words
-at_within rs ls k at words i g =
-    let s = (grows g.slots rs (take k ls) at i (gathered ls g.size) g.on).size in
-    let h = g.room in
-    omega arith
