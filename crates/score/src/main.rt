@@ -4,25 +4,12 @@
 use std::io;
 use std::io::Read;
 
-// The first bytes of the input, as many as there is room for.
-fn fill(rt: &HostRuntime, room: &mut [u8]) -> io::Result<usize> {
-    let mut input = rt.stdin();
-    let mut filled = 0;
-    for _ in 0..room.len() {
-        if filled >= room.len() {
-            break;
-        }
-        let got = input.read(&mut room[filled..])?;
-        if got == 0 {
-            break;
-        }
-        filled += got;
-    }
-    Ok(filled)
-}
+// A page longer than 65,535 bytes is told by its first 65,536.
+const MOST: u64 = 65536;
 
 fn main(rt: HostRuntime) -> io::Result<()> {
-    let mut page = vec![in rt.alloc(); 0u8; 65536]?;
-    let size = fill(&rt, page.as_mut_slice())?;
+    let mut page = Vec::new(rt.alloc());
+    rt.reader().take(MOST).read_to_end(&mut page)?;
+    let size = page.len();
     println!(rt; "page of {size} bytes")
 }
