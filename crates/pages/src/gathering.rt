@@ -11,7 +11,7 @@ use refusal::{Cause, Refusal};
 use shelf::slice_vec::SliceVec;
 
 // A text that was gathered: how many names it has, and how many words it takes.
-#[derive(Drop)]
+#[derive(Debug, Drop)]
 pub struct Gathered {
     pub(crate) labels: usize,
     pub(crate) size: usize,

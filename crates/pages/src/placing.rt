@@ -17,7 +17,7 @@ use refusal::{Cause, Refusal};
 use shelf::slice_vec::SliceVec;
 
 // A placed program: how many words it has.
-#[derive(Drop)]
+#[derive(Debug, Drop)]
 pub struct Placed {
     pub(crate) size: usize,
 }

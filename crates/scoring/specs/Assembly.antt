@@ -1,4 +1,4 @@
-use Rattle.std.specs.Prelude.{ℕ, ◌+◌, cond, List, ◌++◌, length, drop, replicate, Ok, Err, Result, nat_le}
+use Rattle.std.specs.Prelude.{◌≡◌, ℕ, ◌+◌, cond, List, ◌++◌, length, drop, replicate, Ok, Err, Result, nat_le}
 use Rattle.refusal.specs.declared.Cause.TheVariants.{TapeTooShort}
 use Rattle.refusal.specs.declared.Refusal.{Refusal}
 use Rattle.refusal.specs.Numbers.{refused}
@@ -45,6 +45,11 @@ labels_then g (Err e) slots = replicate (length slots) no_label
 abbrev pub words_then : Result Gathering Refusal → Result (List ℕ) Refusal → List ℕ → List ℕ
 words_then (Ok g) p words = words_after p words
 words_then (Err e) p words = words
+
+-- what assembling a page leaves of the label slots and the words
+pub record Translated (bytes : List ℕ) (labels labels' : List Label) (words words' : List ℕ) : Type 0 where
+  pub labels : labels' ≡ labels_then (gathering bytes (length labels)) (program_of bytes (length labels) (length words)) labels
+  pub words : words' ≡ words_then (gathering bytes (length labels)) (program_of bytes (length labels) (length words)) words
 
 -- words are a page's program: each line's stand at its address, and each name of the page stands for its line
 pub record PagePlaced (bytes program : List ℕ) : Type 0 where

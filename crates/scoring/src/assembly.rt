@@ -1,7 +1,6 @@
 // A page from its text to its tape.
 ghost use Rattle.std.specs.Prelude.{◌≡◌, ◌≤◌, length, take, IfOk, Ok, Err, MatchResult};
-ghost use Rattle.pages.specs.Page.{gathering};
-ghost use Rattle.scoring.specs.Assembly.{program_of, taped, assembled, size_answer, tape_then, labels_then, words_then, PagePlaced, PageTaped};
+ghost use Rattle.scoring.specs.Assembly.{program_of, taped, assembled, size_answer, tape_then, Translated, PagePlaced, PageTaped};
 ghost use Rattle.taping.specs.Tapes.{HoldsProgram};
 
 use pages::{Label, Placed, gather, place};
@@ -12,10 +11,7 @@ fn translate(text: &[u8], labels: &mut [Label], words: &mut [u16]) -> Result<Pla
     ensures program { MatchResult result
         (λ p. program_of text.now (length labels.old) (length words.old) ≡ Ok (take p.size words.new))
         (λ e. program_of text.now (length labels.old) (length words.old) ≡ Err e) }
-    ensures labels { labels.new ≡ labels_then (gathering text.now (length labels.old))
-        (program_of text.now (length labels.old) (length words.old)) labels.old }
-    ensures words { words.new ≡ words_then (gathering text.now (length labels.old))
-        (program_of text.now (length labels.old) (length words.old)) words.old }
+    ensures left { Translated text.now labels.old labels.new words.old words.new }
     ensures page { IfOk result (λ p. PagePlaced text.now (take p.size words.new)) }
     ensures size { IfOk result (λ p. p.size ≤ length words.new) }
 {
@@ -30,10 +26,7 @@ fn write_tape(placed: Placed, words: &[u16], tape: &mut [u32]) -> Result<usize, 
     ensures after { tape.new ≡ tape_then (taped (length tape.old) (Ok (take placed.size words.now))) tape.old }
     ensures holds { IfOk result (λ n. HoldsProgram (take placed.size words.now) (take n tape.new)) }
 {
-    match taping::tape(placed, words, tape) {
-        Ok(size) => Ok(size),
-        Err(untaped) => Err(untaped.refusal),
-    }
+    Ok(taping::tape(placed, words, tape)?)
 }
 
 // Assembles a page: its labels go into the first slots, its program into the first words, its tape into the first places. It answers how
@@ -47,10 +40,7 @@ pub fn assemble(
     ensures answer { result ≡ size_answer (assembled text.now (length labels.old) (length words.old) (length tape.old)) }
     ensures tape { tape.new ≡ tape_then
         (assembled text.now (length labels.old) (length words.old) (length tape.old)) tape.old }
-    ensures labels { labels.new ≡ labels_then (gathering text.now (length labels.old))
-        (program_of text.now (length labels.old) (length words.old)) labels.old }
-    ensures words { words.new ≡ words_then (gathering text.now (length labels.old))
-        (program_of text.now (length labels.old) (length words.old)) words.old }
+    ensures left { Translated text.now labels.old labels.new words.old words.new }
     ensures page { IfOk result (λ n. PageTaped text.now (take n tape.new)) }
 {
     let placed = translate(text, labels, words)?;

@@ -1,7 +1,6 @@
 // A page run to its end.
 ghost use Rattle.std.specs.Prelude.{◌≡◌, length, IfOk};
-ghost use Rattle.pages.specs.Page.{gathering};
-ghost use Rattle.scoring.specs.Assembly.{program_of, assembled, tape_then, labels_then, words_then};
+ghost use Rattle.scoring.specs.Assembly.{assembled, tape_then, Translated};
 ghost use Rattle.scoring.specs.Scores.{score_answer, view_scored, PageScored};
 
 use crate::assembly::assemble;
@@ -31,10 +30,7 @@ pub fn score<B: Bus>(
         (B.Bus.view bus.old) x (B.Bus.view bus.new)) }
     ensures tape { tape.new ≡ tape_then
         (assembled text.now (length labels.old) (length words.old) (length tape.old)) tape.old }
-    ensures labels { labels.new ≡ labels_then (gathering text.now (length labels.old))
-        (program_of text.now (length labels.old) (length words.old)) labels.old }
-    ensures words { words.new ≡ words_then (gathering text.now (length labels.old))
-        (program_of text.now (length labels.old) (length words.old)) words.old }
+    ensures left { Translated text.now labels.old labels.new words.old words.new }
     ensures places { B.Bus.places bus.new ≡ B.Bus.places bus.old }
 {
     let size = assemble(text, labels, words, tape)?;

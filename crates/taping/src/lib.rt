@@ -10,10 +10,19 @@ use refusal::{Cause, Refusal};
 use shelf::slice_vec::SliceVec;
 
 // A program that was not taped, handed back, and why.
-#[derive(Drop)]
+#[derive(Debug, Drop)]
 pub struct Untaped {
     pub placed: Placed,
     pub refusal: Refusal,
+}
+
+// Why it was not taped; the program is given up.
+impl From<Untaped> for Refusal {
+    ghost from_gives = { λ untaped refusal. refusal ≡ untaped.refusal };
+
+    fn from(untaped: Untaped) -> Refusal {
+        untaped.refusal
+    }
 }
 
 // The sum of words modulo 65,536.

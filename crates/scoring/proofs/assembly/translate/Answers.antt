@@ -19,9 +19,11 @@ returns c =
     let same : program_of bytes (length slots) (length words) ≡ p = same_program bytes slots left (length words) c.gather.auto.slots _ names.answer names.slots in
     record {
       program = program_by words _ p _ _ put.answer put.words same;
-      labels = labels_by g p slots left _ put.slots names.slots c.gather.auto.slots
-          ∙ ap (λ (q : Result (List ℕ) Refusal). labels_then g q slots) (sym same);
-      words = words_by g _ p words _ names.answer put.words ∙ ap (λ (q : Result (List ℕ) Refusal). words_then g q words) (sym same);
+      left = record {
+        labels = labels_by g p slots left _ put.slots names.slots c.gather.auto.slots
+            ∙ ap (λ (q : Result (List ℕ) Refusal). labels_then g q slots) (sym same);
+        words = words_by g _ p words _ names.answer put.words ∙ ap (λ (q : Result (List ℕ) Refusal). words_then g q words) (sym same);
+      };
       page = page_by words _ bytes left p _ put.answer put.words put.program;
       size = size_by words _ p _ put.answer put.words;
     }

@@ -21,7 +21,6 @@ returns g c =
       view = rw sub-zero at run.view ∙ ap (view_scored p j a.stack v) (sym made);
       page = page_ran p j a.stack v _ a.text.now _ _ e.page (rw sub-zero at run.page);
       tape = e.tape;
-      labels = e.labels;
-      words = e.words;
+      left = e.left;
       places = run.places;
     }
