@@ -4,7 +4,6 @@
 mod nowhere;
 
 use nowhere::Nowhere;
-use refusal::Refusal;
 use std::io;
 use stores::bytes::Bytes;
 use stores::fence::Fence;
@@ -14,18 +13,12 @@ use stores::window::Window;
 use stores::words::Words;
 use stores::{ReadStore, WriteStore};
 
-fn refused(rt: &HostRuntime, refusal: Refusal) -> io::Result<()> {
-    let number = refusal.cause.number();
-    let place = refusal.place;
-    println!(rt; "refused {number} {place}")
-}
-
 fn reads<S: ReadStore>(rt: &HostRuntime, store: &S, addresses: &[u16]) -> io::Result<()> {
     for at in addresses {
         print!(rt; "  read {at}: ")?;
         match store.read(*at) {
             Ok(word) => println!(rt; "{word}")?,
-            Err(refusal) => refused(rt, refusal)?,
+            Err(refusal) => println!(rt; "{refusal}")?,
         }
     }
     Ok(())
@@ -36,7 +29,7 @@ fn probes<S: WriteStore>(rt: &HostRuntime, store: &S, addresses: &[u16]) -> io::
         print!(rt; "  probe {at}: ")?;
         match store.probe(*at) {
             Ok(()) => println!(rt; "done")?,
-            Err(refusal) => refused(rt, refusal)?,
+            Err(refusal) => println!(rt; "{refusal}")?,
         }
     }
     Ok(())
@@ -48,7 +41,7 @@ fn writes<S: WriteStore>(rt: &HostRuntime, store: &mut S, addresses: &[u16]) -> 
         print!(rt; "  write {at}: ")?;
         match store.write(*at, at.wrapping_add(1000)) {
             Ok(()) => println!(rt; "done")?,
-            Err(refusal) => refused(rt, refusal)?,
+            Err(refusal) => println!(rt; "{refusal}")?,
         }
     }
     Ok(())
