@@ -23,10 +23,11 @@ impl WriteStore for Nowhere {
     ghost shut = { λ s. own_places };
 
     fn write(&mut self, at: u16, _word: u16) -> Result<(), Refusal> {
-        Err(Cause::Absent.at(usize::from(at)))
+        self.probe(at)
     }
 
     fn probe(&self, at: u16) -> Result<(), Refusal> {
-        Err(Cause::Absent.at(usize::from(at)))
+        self.read(at)?;
+        Ok(())
     }
 }

@@ -29,6 +29,7 @@ impl WriteStore for Words<'_> {
 
     fn write(&mut self, at: u16, word: u16) -> Result<(), Refusal> {
         self.probe(at)?;
+        // by index, since nothing is known of a slice once it was written through `get_mut`
         self.words[usize::from(at)] = word;
         Ok(())
     }
