@@ -9,7 +9,7 @@ use refusal::Refusal;
 use stores::{ReadStore, WriteStore};
 
 // A memory, a screen and a source of keys, of any make.
-#[derive(Drop)]
+#[derive(Debug, PartialEq, Eq, Drop)]
 pub struct Devices<M, S, K> {
     pub memory: M,
     pub screen: S,
@@ -53,13 +53,8 @@ impl<M: WriteStore, S: WriteStore, K: ReadStore> Bus for Devices<M, S, K> {
     }
 
     fn key(&self, count: u32) -> Option<u16> {
-        if count > 65535 {
-            return None;
-        }
-        match self.keys.read(count as u16) {
-            Ok(word) => Some(word),
-            Err(_) => None,
-        }
+        let count = u16::try_from(count).ok()?;
+        self.keys.read(count).ok()
     }
 
     fn exchange(&mut self, side: Side, at: u16, word: u16) -> Result<u16, Refusal> {

@@ -23,17 +23,9 @@ pub fn replace<P: Copy, B: Bus>(
         *processor = after;
         return Ok(None);
     };
-    match bus.exchange(cell.side, cell.at, cell.word) {
-        Ok(old) => {
-            *processor = after;
-            Ok(Some(CellWrite {
-                side: cell.side,
-                at: cell.at,
-                word: old,
-            }))
-        }
-        Err(refusal) => Err(refusal),
-    }
+    let old = bus.exchange(cell.side, cell.at, cell.word)?;
+    *processor = after;
+    Ok(Some(CellWrite { word: old, ..cell }))
 }
 
 // The next instruction; a refused one alters nothing.

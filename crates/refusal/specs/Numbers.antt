@@ -1,4 +1,4 @@
-use Rattle.std.specs.Prelude.{ℕ}
+use Rattle.std.specs.Prelude.{ℕ, List, ◌++◌, codes, decimal}
 use Rattle.refusal.specs.declared.Cause.{Cause}
 use Rattle.refusal.specs.declared.Cause.TheVariants as cause
 use Rattle.refusal.specs.declared.Refusal.{Refusal}
@@ -31,3 +31,7 @@ number cause.CountTooHigh = 22
 -- a refusal with its place
 abbrev pub refused : Cause → ℕ → Refusal
 refused c p = record { cause = c; place = p }
+
+-- what is printed of a refusal: the cause's number and the place
+abbrev pub refusal_text : Refusal → List ℕ
+refusal_text r = codes "refused " ++ decimal (number r.cause) ++ codes " " ++ decimal r.place

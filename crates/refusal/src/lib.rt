@@ -1,11 +1,14 @@
 // Why a call was refused, and where.
 #![tactic(auto)]
 
-ghost use Rattle.std.specs.Prelude.{◌≡◌};
-ghost use Rattle.refusal.specs.Numbers.{number, refused};
+ghost use Rattle.std.specs.Prelude.{◌≡◌, Some};
+ghost use Rattle.refusal.specs.Numbers.{number, refused, refusal_text};
+
+use std::error::Error;
+use std::fmt;
 
 // One cause for each thing that can be wrong with what a call is handed.
-#[derive(Clone, Copy, PartialEq, Eq, Debug)]
+#[derive(Clone, Copy, Debug, PartialEq, Eq, Hash)]
 pub enum Cause {
     // of the page's author
     UnknownStatement,
@@ -37,13 +40,6 @@ pub enum Cause {
 }
 
 impl Cause {
-    // The number that users know a cause by.
-    pub fn number(self) -> u8
-        ensures { result ≡ number self }
-    {
-        self as u8 + 1
-    }
-
     // The refusal for this cause at a place: a line from 1, a tape index from 0, an address, or 0.
     pub fn at(self, place: usize) -> Refusal
         ensures { result ≡ refused self place }
@@ -52,9 +48,28 @@ impl Cause {
     }
 }
 
+// The number that users know a cause by.
+impl From<Cause> for u8 {
+    ghost from_gives = { λ cause n. n ≡ number cause };
+
+    fn from(cause: Cause) -> u8 {
+        cause as u8 + 1
+    }
+}
+
 // A cause with its place.
-#[derive(Clone, Copy, PartialEq, Eq, Debug)]
+#[derive(Clone, Copy, Debug, PartialEq, Eq, Hash)]
 pub struct Refusal {
     pub cause: Cause,
     pub place: usize,
 }
+
+impl fmt::Display for Refusal {
+    ghost output = { λ r. Some (refusal_text r) };
+
+    fn fmt<W: fmt::Write>(&self, f: &mut fmt::Formatter<W>) -> fmt::Result {
+        write!(f, "refused {} {}", u8::from(self.cause), self.place)
+    }
+}
+
+impl Error for Refusal {}

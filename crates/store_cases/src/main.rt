@@ -5,6 +5,7 @@ mod nowhere;
 
 use nowhere::Nowhere;
 use refusal::Refusal;
+use std::fmt::Display;
 use std::io;
 use stores::bytes::Bytes;
 use stores::fence::Fence;
@@ -14,44 +15,42 @@ use stores::window::Window;
 use stores::words::Words;
 use stores::{ReadStore, WriteStore};
 
-fn refused(rt: &HostRuntime, refusal: Refusal) -> io::Result<()> {
-    let number = refusal.cause.number();
-    let place = refusal.place;
-    println!(rt; "refused {number} {place}")
+// What a call answers at each address.
+fn answers<T: Display + Drop, F: FnMut(u16) -> Result<T, Refusal> + Drop>(
+    rt: &HostRuntime,
+    name: &str,
+    addresses: &[u16],
+    mut call: F,
+) -> io::Result<()>
+    requires { F.IsAlwaysCallable call }
+{
+    for at in addresses {
+        match call(*at) {
+            Ok(answer) => println!(rt; "  {name} {at}: {answer}")?,
+            Err(refusal) => println!(rt; "  {name} {at}: {refusal}")?,
+        }
+    }
+    Ok(())
 }
 
 fn reads<S: ReadStore>(rt: &HostRuntime, store: &S, addresses: &[u16]) -> io::Result<()> {
-    for at in addresses {
-        print!(rt; "  read {at}: ")?;
-        match store.read(*at) {
-            Ok(word) => println!(rt; "{word}")?,
-            Err(refusal) => refused(rt, refusal)?,
-        }
-    }
-    Ok(())
+    answers(rt, "read", addresses, |at| store.read(at))
 }
 
 fn probes<S: WriteStore>(rt: &HostRuntime, store: &S, addresses: &[u16]) -> io::Result<()> {
-    for at in addresses {
-        print!(rt; "  probe {at}: ")?;
-        match store.probe(*at) {
-            Ok(()) => println!(rt; "done")?,
-            Err(refusal) => refused(rt, refusal)?,
-        }
-    }
-    Ok(())
+    answers(
+        rt,
+        "probe",
+        addresses,
+        |at| store.probe(at).map(|()| "done"),
+    )
 }
 
 // Writes the address plus 1000 to each address.
 fn writes<S: WriteStore>(rt: &HostRuntime, store: &mut S, addresses: &[u16]) -> io::Result<()> {
-    for at in addresses {
-        print!(rt; "  write {at}: ")?;
-        match store.write(*at, at.wrapping_add(1000)) {
-            Ok(()) => println!(rt; "done")?,
-            Err(refusal) => refused(rt, refusal)?,
-        }
-    }
-    Ok(())
+    answers(rt, "write", addresses, |at| {
+        store.write(at, at.wrapping_add(1000)).map(|()| "done")
+    })
 }
 
 fn all<S: WriteStore>(rt: &HostRuntime, store: &mut S, addresses: &[u16]) -> io::Result<()> {

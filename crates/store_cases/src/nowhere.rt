@@ -4,7 +4,7 @@ ghost use Rattle.store_cases.specs.Nowhere.{no_cells, no_locks, own_places};
 use refusal::{Cause, Refusal};
 use stores::{ReadStore, WriteStore};
 
-#[derive(Drop)]
+#[derive(Clone, Copy, Debug, PartialEq, Eq)]
 pub struct Nowhere;
 
 impl ReadStore for Nowhere {
@@ -13,7 +13,7 @@ impl ReadStore for Nowhere {
     ghost place = { λ s. own_places };
 
     fn read(&self, at: u16) -> Result<u16, Refusal> {
-        Err(Cause::Absent.at(at as usize))
+        Err(Cause::Absent.at(usize::from(at)))
     }
 }
 
@@ -23,10 +23,11 @@ impl WriteStore for Nowhere {
     ghost shut = { λ s. own_places };
 
     fn write(&mut self, at: u16, _word: u16) -> Result<(), Refusal> {
-        Err(Cause::Absent.at(at as usize))
+        self.probe(at)
     }
 
     fn probe(&self, at: u16) -> Result<(), Refusal> {
-        Err(Cause::Absent.at(at as usize))
+        self.read(at)?;
+        Ok(())
     }
 }

@@ -30,6 +30,10 @@ fence_locks low high o a = cond (fenced low high a) false (o a)
 abbrev pub fence_places : ℕ → ℕ → Places → Places
 fence_places low high p a = cond (fenced low high a) a (p a)
 
+-- the second store's address that an address means; none below the border
+abbrev pub past : ℕ → ℕ → Option ℕ
+past border a = cond (nat_lt a border) None (Some (a - border))
+
 -- below the border the first, from it on the second
 abbrev pub split_at : {X : Type 0} → ℕ → (ℕ → X) → (ℕ → X) → ℕ → X
 split_at border first second a = cond (nat_lt a border) (first a) (second (a - border))

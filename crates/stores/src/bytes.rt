@@ -3,11 +3,12 @@ ghost use Rattle.std.specs.Prelude.{◌≡◌};
 ghost use Rattle.stores.specs.Cells.{writes};
 ghost use Rattle.stores.specs.Memories.{all_open, itself, paired, bytes_after};
 
+use crate::lent::cell;
 use crate::{ReadStore, WriteStore};
-use refusal::{Cause, Refusal};
+use refusal::Refusal;
 
 // The bytes lent: word a is the bytes 2a and 2a + 1, the high one first, all open. An odd last byte is in no word.
-#[derive(Drop)]
+#[derive(Debug, Drop)]
 pub struct Bytes<'a> {
     pub bytes: &'a mut [u8],
 }
@@ -19,15 +20,10 @@ impl Bytes<'_> {
         ensures lent { self.new.bytes.now ≡ bytes_after self.old.bytes.now at word }
         ensures named { self.new.bytes.ghost_name ≡ self.old.bytes.ghost_name }
     {
-        let i = at as usize * 2;
-        if i + 1 < self.bytes.len() {
-            let [high, low] = word.to_be_bytes();
-            self.bytes[i] = high;
-            self.bytes[i + 1] = low;
-            Ok(())
-        } else {
-            Err(Cause::Absent.at(at as usize))
-        }
+        self.probe(at)?;
+        let i = usize::from(at) * 2;
+        [self.bytes[i], self.bytes[i + 1]] = word.to_be_bytes();
+        Ok(())
     }
 }
 
@@ -36,13 +32,10 @@ impl ReadStore for Bytes<'_> {
 
     ghost place = { λ s. itself };
 
+    #[tactic(auto, using(crate::proofs::Pairs::pair_at))]
     fn read(&self, at: u16) -> Result<u16, Refusal> {
-        let i = at as usize * 2;
-        if i + 1 < self.bytes.len() {
-            Ok(u16::from_be_bytes([self.bytes[i], self.bytes[i + 1]]))
-        } else {
-            Err(Cause::Absent.at(at as usize))
-        }
+        let (pairs, _) = self.bytes.as_chunks::<2>();
+        cell(pairs, at).map(u16::from_be_bytes)
     }
 }
 

@@ -6,7 +6,7 @@ use crate::{ReadStore, WriteStore};
 use refusal::{Cause, Refusal};
 
 // The store below, with its present addresses from `low` to below `high` closed.
-#[derive(Drop)]
+#[derive(Debug, PartialEq, Eq, Drop)]
 pub struct Fence<S> {
     pub store: S,
     pub low: u32,
@@ -18,7 +18,7 @@ impl<S> Fence<S> {
     fn closes(&self, at: u16) -> bool
         ensures { result ≡ fenced self.now.low self.now.high at }
     {
-        self.low <= at as u32 && (at as u32) < self.high
+        (self.low..self.high).contains(&u32::from(at))
     }
 }
 
@@ -49,9 +49,7 @@ impl<S: WriteStore> WriteStore for Fence<S> {
         if !self.closes(at) {
             return self.store.probe(at);
         }
-        match self.read(at) {
-            Ok(_) => Err(Cause::Closed.at(at as usize)),
-            Err(refusal) => Err(refusal),
-        }
+        self.read(at)?;
+        Err(Cause::Closed.at(usize::from(at)))
     }
 }

@@ -6,6 +6,7 @@ ghost use Rattle.stores.specs.Cells.{Cells, Locks, Places, reads, writes, writte
 
 pub mod bytes;
 pub mod fence;
+mod lent;
 pub mod split;
 pub mod text;
 pub mod window;

@@ -1,16 +1,26 @@
 // Two stores side by side.
 ghost use Rattle.std.specs.Prelude.{◌≡◌};
-ghost use Rattle.stores.specs.Piles.{split_at};
+ghost use Rattle.stores.specs.Piles.{past, split_at};
 
 use crate::{ReadStore, WriteStore};
 use refusal::Refusal;
 
 // Below `border` the first store; from there on the second, whose address 0 is the border.
-#[derive(Drop)]
+#[derive(Debug, PartialEq, Eq, Drop)]
 pub struct Split<F, S> {
     pub first: F,
     pub second: S,
     pub border: u32,
+}
+
+impl<F, S> Split<F, S> {
+    // The second store's address that an address means, if the border is not above it.
+    fn past(&self, at: u16) -> Option<u16>
+        ensures { result ≡ past self.now.border at }
+    {
+        let past = u32::from(at).checked_sub(self.border)?;
+        u16::try_from(past).ok()
+    }
 }
 
 impl<F: ReadStore, S: ReadStore> ReadStore for Split<F, S> {
@@ -19,10 +29,9 @@ impl<F: ReadStore, S: ReadStore> ReadStore for Split<F, S> {
     ghost place = { λ s. split_at s.border (F.ReadStore.place s.first) (S.ReadStore.place s.second) };
 
     fn read(&self, at: u16) -> Result<u16, Refusal> {
-        if (at as u32) < self.border {
-            self.first.read(at)
-        } else {
-            self.second.read((at as u32 - self.border) as u16)
+        match self.past(at) {
+            None => self.first.read(at),
+            Some(past) => self.second.read(past),
         }
     }
 }
@@ -33,18 +42,16 @@ impl<F: WriteStore, S: WriteStore> WriteStore for Split<F, S> {
     ghost shut = { λ s. split_at s.border (F.WriteStore.shut s.first) (S.WriteStore.shut s.second) };
 
     fn write(&mut self, at: u16, word: u16) -> Result<(), Refusal> {
-        if (at as u32) < self.border {
-            self.first.write(at, word)
-        } else {
-            self.second.write((at as u32 - self.border) as u16, word)
+        match self.past(at) {
+            None => self.first.write(at, word),
+            Some(past) => self.second.write(past, word),
         }
     }
 
     fn probe(&self, at: u16) -> Result<(), Refusal> {
-        if (at as u32) < self.border {
-            self.first.probe(at)
-        } else {
-            self.second.probe((at as u32 - self.border) as u16)
+        match self.past(at) {
+            None => self.first.probe(at),
+            Some(past) => self.second.probe(past),
         }
     }
 }

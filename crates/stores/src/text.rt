@@ -3,10 +3,11 @@ ghost use Rattle.std.specs.Prelude.{◌≡◌};
 ghost use Rattle.stores.specs.Memories.{itself, listed};
 
 use crate::ReadStore;
-use refusal::{Cause, Refusal};
+use crate::lent::cell;
+use refusal::Refusal;
 
 // The bytes of a text, one to an address. It is only read.
-#[derive(Drop)]
+#[derive(Clone, Copy, Debug, PartialEq, Eq)]
 pub struct Text<'a> {
     pub bytes: &'a [u8],
 }
@@ -17,11 +18,6 @@ impl ReadStore for Text<'_> {
     ghost place = { λ s. itself };
 
     fn read(&self, at: u16) -> Result<u16, Refusal> {
-        let i = at as usize;
-        if i < self.bytes.len() {
-            Ok(self.bytes[i] as u16)
-        } else {
-            Err(Cause::Absent.at(i))
-        }
+        cell(self.bytes, at).map(u16::from)
     }
 }

@@ -1,12 +1,16 @@
 // A part of another store.
 ghost use Rattle.std.specs.Prelude.{◌≡◌};
+ghost use Rattle.std.specs.Option.{ok_or};
+ghost use Rattle.refusal.specs.declared.Cause.TheVariants.{Absent};
+ghost use Rattle.refusal.specs.Numbers.{refused};
 ghost use Rattle.stores.specs.Piles.{window_cells, window_locks, window_places, meant};
 
+use crate::lent::absent;
 use crate::{ReadStore, WriteStore};
-use refusal::{Cause, Refusal};
+use refusal::Refusal;
 
 // The addresses below `size`, which mean those from `base` on of the store below.
-#[derive(Drop)]
+#[derive(Debug, PartialEq, Eq, Drop)]
 pub struct Window<S> {
     pub store: S,
     pub base: u32,
@@ -14,16 +18,15 @@ pub struct Window<S> {
 }
 
 impl<S> Window<S> {
-    // The address below that an address means, if there is one.
-    fn below(&self, at: u16) -> Option<u16>
-        ensures { result ≡ meant self.now.base self.now.size at }
+    // The address below that an address means, or refusal 16.
+    fn below(&self, at: u16) -> Result<u16, Refusal>
+        ensures { result ≡ ok_or (meant self.now.base self.now.size at) (refused Absent at) }
     {
-        let below = self.base as u64 + at as u64;
-        if (at as u32) < self.size && below <= 65535 {
-            Some(below as u16)
-        } else {
-            None
-        }
+        let below = u64::from(self.base) + u64::from(at);
+        u16::try_from(below)
+            .ok()
+            .filter(|_| u32::from(at) < self.size)
+            .ok_or(absent(at))
     }
 }
 
@@ -33,10 +36,8 @@ impl<S: ReadStore> ReadStore for Window<S> {
     ghost place = { λ s. window_places s.base s.size (S.ReadStore.place s.store) };
 
     fn read(&self, at: u16) -> Result<u16, Refusal> {
-        match self.below(at) {
-            Some(below) => self.store.read(below),
-            None => Err(Cause::Absent.at(at as usize)),
-        }
+        let below = self.below(at)?;
+        self.store.read(below)
     }
 }
 
@@ -46,16 +47,12 @@ impl<S: WriteStore> WriteStore for Window<S> {
     ghost shut = { λ s. window_places s.base s.size (S.WriteStore.shut s.store) };
 
     fn write(&mut self, at: u16, word: u16) -> Result<(), Refusal> {
-        match self.below(at) {
-            Some(below) => self.store.write(below, word),
-            None => Err(Cause::Absent.at(at as usize)),
-        }
+        let below = self.below(at)?;
+        self.store.write(below, word)
     }
 
     fn probe(&self, at: u16) -> Result<(), Refusal> {
-        match self.below(at) {
-            Some(below) => self.store.probe(below),
-            None => Err(Cause::Absent.at(at as usize)),
-        }
+        let below = self.below(at)?;
+        self.store.probe(below)
     }
 }

@@ -2,11 +2,12 @@
 ghost use Rattle.std.specs.Prelude.{◌≡◌};
 ghost use Rattle.stores.specs.Memories.{all_open, itself, listed};
 
+use crate::lent::cell;
 use crate::{ReadStore, WriteStore};
-use refusal::{Cause, Refusal};
+use refusal::Refusal;
 
 // The words lent, from address 0, all open.
-#[derive(Drop)]
+#[derive(Debug, Drop)]
 pub struct Words<'a> {
     pub words: &'a mut [u16],
 }
@@ -17,12 +18,7 @@ impl ReadStore for Words<'_> {
     ghost place = { λ s. itself };
 
     fn read(&self, at: u16) -> Result<u16, Refusal> {
-        let i = at as usize;
-        if i < self.words.len() {
-            Ok(self.words[i])
-        } else {
-            Err(Cause::Absent.at(i))
-        }
+        cell(self.words, at)
     }
 }
 
@@ -32,13 +28,10 @@ impl WriteStore for Words<'_> {
     ghost shut = { λ s. itself };
 
     fn write(&mut self, at: u16, word: u16) -> Result<(), Refusal> {
-        let i = at as usize;
-        if i < self.words.len() {
-            self.words[i] = word;
-            Ok(())
-        } else {
-            Err(Cause::Absent.at(i))
-        }
+        self.probe(at)?;
+        // by index, since nothing is known of a slice once it was written through `get_mut`
+        self.words[usize::from(at)] = word;
+        Ok(())
     }
 
     fn probe(&self, at: u16) -> Result<(), Refusal> {
