@@ -125,7 +125,7 @@ impl Machine {
     }
 }
 
-// What a word means.
+// What a word means, by a definition that stays shut in the proofs of its callers.
 #[tactic(auto, unfolding(crate::specs::Steps::meaning))]
 fn decode(word: u16) -> Result<Instruction, Refusal>
     ensures { result ≡ meaning word }

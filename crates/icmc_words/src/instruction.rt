@@ -26,7 +26,7 @@ pub enum Condition {
 }
 
 impl Condition {
-    // The condition of a number below 15.
+    // The condition of a number below 15: the guards of the decoder see to that, with a refusal of their own.
     pub(crate) fn at(k: u8) -> Condition
         ensures { result ≡ condition_at k }
     {
