@@ -3,6 +3,7 @@ use Rattle.refusal.specs.declared.Refusal.{Refusal}
 use Rattle.processor.specs.declared.Mark.{Mark}
 use Rattle.processor.specs.declared.Mark.TheVariants.{Ready, AtBreak, Halted}
 use Rattle.processor.specs.declared.Next.{Next}
+use Rattle.processor.specs.declared.Side.{Side}
 use Rattle.processor.specs.declared.Side.TheVariants.{Memory, Screen}
 use Rattle.processor.specs.Views.{View, Fault, unassigned, look}
 use Rattle.processor.specs.Rules.{Rules}
@@ -27,11 +28,14 @@ abbrev pub quiet : Machine → Result (Next Machine) Fault
 quiet n = Ok (record { after = n; write = None })
 
 -- the same, with a word for a cell
+abbrev pub into_cell : Side → ℕ → ℕ → Machine → Result (Next Machine) Fault
+into_cell s a w n = Ok (record { after = n; write = Some (record { side = s; at = a; word = w }) })
+
 abbrev pub into_memory : ℕ → ℕ → Machine → Result (Next Machine) Fault
-into_memory a w n = Ok (record { after = n; write = Some (record { side = Memory; at = a; word = w }) })
+into_memory a w n = into_cell Memory a w n
 
 abbrev pub into_screen : ℕ → ℕ → Machine → Result (Next Machine) Fault
-into_screen a w n = Ok (record { after = n; write = Some (record { side = Screen; at = a; word = w }) })
+into_screen a w n = into_cell Screen a w n
 
 -- a machine that goes by a word of the memory
 abbrev pub from_memory : View → ℕ → (ℕ → Machine) → Result (Next Machine) Fault

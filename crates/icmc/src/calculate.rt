@@ -1,11 +1,9 @@
 // Instructions that calculate: a result and flags, and no cell.
-ghost use Rattle.std.specs.Prelude.{◌≡◌, false};
-ghost use Rattle.icmc_alu.specs.declared.flags.Flag.TheVariants.{Carry};
-ghost use Rattle.icmc_alu.specs.Flags.{has_flag};
+ghost use Rattle.std.specs.Prelude.{◌≡◌};
 ghost use Rattle.icmc_alu.specs.Logic.{logic_word};
 ghost use Rattle.icmc_alu.specs.Whole.{executed};
 ghost use Rattle.icmc.specs.Machines.{reg};
-ghost use Rattle.icmc.specs.Calculations.{with_arithmetic, with_logic, calculated, calculation};
+ghost use Rattle.icmc.specs.Calculations.{with_arithmetic, with_logic, calculation};
 
 use crate::machine::Machine;
 use icmc_alu::{Arithmetic, Executed, Flag, Logic, compare, has_flag, shift, with_zero};
@@ -24,33 +22,23 @@ impl Machine {
         self.with_reg(x, word).with_fr(with_zero(fr, word))
     }
 
-    fn arithmetic(&self, next: Machine, operation: Arithmetic, x: u8, y: u8, z: u8) -> Machine
+    // An operation on two registers, with a carry to add.
+    fn arithmetic(
+        &self,
+        next: Machine,
+        operation: Arithmetic,
+        x: u8,
+        y: u8,
+        z: u8,
+        carry: bool,
+    ) -> Machine
         ensures { result ≡ with_arithmetic next x
-            (executed operation (reg self.now y) (reg self.now z) false self.now.fr) }
+            (executed operation (reg self.now y) (reg self.now z) carry self.now.fr) }
     {
-        next.with_arithmetic(
-            x,
-            operation.execute(self.reg(y), self.reg(z), false, self.fr),
-        )
-    }
-
-    // The same with the carry flag added.
-    fn carrying(&self, next: Machine, operation: Arithmetic, x: u8, y: u8, z: u8) -> Machine
-        ensures { result ≡ with_arithmetic next x (executed operation (reg self.now y) (reg self.now z)
-            (has_flag Carry self.now.fr) self.now.fr) }
-    {
-        let carry = has_flag(self.fr, Flag::Carry);
         next.with_arithmetic(
             x,
             operation.execute(self.reg(y), self.reg(z), carry, self.fr),
         )
-    }
-
-    // The register and 1.
-    fn by_one(&self, next: Machine, operation: Arithmetic, x: u8) -> Machine
-        ensures { result ≡ with_arithmetic next x (executed operation (reg self.now x) 1 false self.now.fr) }
-    {
-        next.with_arithmetic(x, operation.execute(self.reg(x), 1, false, self.fr))
     }
 
     fn logic(&self, next: Machine, operation: Logic, x: u8, y: u8, z: u8) -> Machine
@@ -60,10 +48,12 @@ impl Machine {
         next.with_logic(x, operation.compute(self.reg(y), self.reg(z)), self.fr)
     }
 
-    // The result by the instruction's own operation.
-    fn result(&self, instruction: Instruction, next: Machine) -> Machine
-        ensures { result ≡ calculated instruction self.now next }
+    // The result of an instruction on `self`, put into `next`.
+    #[tactic(auto, unfolding(crate::specs::Calculations::calculation))]
+    pub(crate) fn calculate(&self, instruction: Instruction, next: Machine) -> Machine
+        ensures { result ≡ calculation instruction self.now next }
     {
+        let carry = has_flag(self.fr, Flag::Carry);
         match instruction {
             Instruction::Shift(kind, x, n) => next.with_logic(
                 x,
@@ -75,25 +65,24 @@ impl Machine {
             Instruction::Xor(x, y, z) => self.logic(next, Logic::Xor, x, y, z),
             Instruction::Not(x, y) => self.logic(next, Logic::Not, x, y, y),
             Instruction::Cmp(x, y) => next.with_fr(compare(self.reg(x), self.reg(y), self.fr)),
-            Instruction::Add(x, y, z) => self.arithmetic(next, Arithmetic::Add, x, y, z),
-            Instruction::Addc(x, y, z) => self.carrying(next, Arithmetic::Add, x, y, z),
-            Instruction::Sub(x, y, z) => self.arithmetic(next, Arithmetic::Sub, x, y, z),
-            Instruction::Subc(x, y, z) => self.carrying(next, Arithmetic::Sub, x, y, z),
-            Instruction::Mul(x, y, z) => self.arithmetic(next, Arithmetic::Mul, x, y, z),
-            Instruction::Mulc(x, y, z) => self.carrying(next, Arithmetic::Mul, x, y, z),
-            Instruction::Div(x, y, z) => self.arithmetic(next, Arithmetic::Div, x, y, z),
-            Instruction::Divc(x, y, z) => self.carrying(next, Arithmetic::Div, x, y, z),
-            Instruction::Mod(x, y, z) => self.arithmetic(next, Arithmetic::Mod, x, y, z),
-            Instruction::Inc(x) => self.by_one(next, Arithmetic::Add, x),
-            Instruction::Dec(x) => self.by_one(next, Arithmetic::Sub, x),
+            Instruction::Add(x, y, z) => self.arithmetic(next, Arithmetic::Add, x, y, z, false),
+            Instruction::Addc(x, y, z) => self.arithmetic(next, Arithmetic::Add, x, y, z, carry),
+            Instruction::Sub(x, y, z) => self.arithmetic(next, Arithmetic::Sub, x, y, z, false),
+            Instruction::Subc(x, y, z) => self.arithmetic(next, Arithmetic::Sub, x, y, z, carry),
+            Instruction::Mul(x, y, z) => self.arithmetic(next, Arithmetic::Mul, x, y, z, false),
+            Instruction::Mulc(x, y, z) => self.arithmetic(next, Arithmetic::Mul, x, y, z, carry),
+            Instruction::Div(x, y, z) => self.arithmetic(next, Arithmetic::Div, x, y, z, false),
+            Instruction::Divc(x, y, z) => self.arithmetic(next, Arithmetic::Div, x, y, z, carry),
+            Instruction::Mod(x, y, z) => self.arithmetic(next, Arithmetic::Mod, x, y, z, false),
+            Instruction::Inc(x) => next.with_arithmetic(
+                x,
+                Arithmetic::Add.execute(self.reg(x), 1, false, self.fr),
+            ),
+            Instruction::Dec(x) => next.with_arithmetic(
+                x,
+                Arithmetic::Sub.execute(self.reg(x), 1, false, self.fr),
+            ),
             _ => next,
         }
-    }
-
-    // The result of an instruction on `self`, put into `next`.
-    pub(crate) fn calculate(&self, instruction: Instruction, next: Machine) -> Machine
-        ensures { result ≡ calculation instruction self.now next }
-    {
-        self.result(instruction, next)
     }
 }

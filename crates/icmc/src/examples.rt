@@ -8,7 +8,7 @@ use icmc_words::{Instruction, ShiftKind};
 use refusal::Refusal;
 
 // What the examples come to.
-#[derive(Clone, Copy)]
+#[derive(Clone, Copy, Debug, PartialEq, Eq)]
 pub struct Examples {
     // 65535 + 1, 0 - 1, 46341 * 46341 and 7 / 0, each on FR 0
     pub sum: Executed,
@@ -28,35 +28,34 @@ pub struct Examples {
 pub fn arithmetic_examples() -> [u16; 8]
     ensures { result ≡ 0 ∷ 56 ∷ 65535 ∷ 544 ∷ 4633 ∷ 48 ∷ 0 ∷ 72 ∷ [] }
 {
-    let sum = Arithmetic::Add.compute(65535, 1, false);
-    let difference = Arithmetic::Sub.compute(0, 1, false);
-    let product = Arithmetic::Mul.compute(46341, 46341, false);
-    let quotient = Arithmetic::Div.compute(7, 0, false);
+    let sum = example(Arithmetic::Add, 65535, 1);
+    let difference = example(Arithmetic::Sub, 0, 1);
+    let product = example(Arithmetic::Mul, 46341, 46341);
+    let quotient = example(Arithmetic::Div, 7, 0);
     [
         sum.word,
-        sum.flags(0),
+        sum.fr,
         difference.word,
-        difference.flags(0),
+        difference.fr,
         product.word,
-        product.flags(0),
+        product.fr,
         quotient.word,
-        quotient.flags(0),
+        quotient.fr,
     ]
 }
 
 // The table of examples that every model has to agree with, one instruction or two each: its contract is the table.
+#[tactic(auto, unfolding(icmc_alu::specs::Whole::executed, crate::specs::Calculations::calculation, crate::specs::Steps::carried_out, crate::specs::Steps::meaning, crate::specs::Steps::next_of))]
 pub fn filed_examples()
     ensures { FiledExamples }
 {}
 
+// An operation with no carry, on FR 0.
+#[tactic(auto, unfolding(icmc_alu::specs::Whole::executed))]
 fn example(operation: Arithmetic, y: u16, z: u16) -> Executed
     ensures { result ≡ performed operation y z false 0 }
 {
-    let outcome = operation.compute(y, z, false);
-    Executed {
-        word: outcome.word,
-        fr: outcome.flags(0),
-    }
+    operation.execute(y, z, false, 0)
 }
 
 // The examples as values, and the same by whole instructions.
@@ -73,9 +72,6 @@ pub fn worked_examples() -> Examples
         rotated: shift(ShiftKind::RotateLeft, 0x8001, 1),
         no_condition: Instruction::decode(0x0bc0),
         no_loadn: Instruction::decode(0xe001),
-        recoded: match Instruction::decode(0xcc02) {
-            Ok(instruction) => instruction.encode(),
-            Err(refusal) => Err(refusal),
-        },
+        recoded: Instruction::decode(0xcc02).and_then(Instruction::encode),
     }
 }

@@ -6,7 +6,7 @@ use icmc_words::Instruction;
 use processor::Mark;
 
 // R0 to R7, the program counter, the flags, the stack pointer, the keys taken so far, and how the last instruction left the machine.
-#[derive(Clone, Copy)]
+#[derive(Clone, Copy, Debug, PartialEq, Eq)]
 pub struct Machine {
     pub registers: [u16; 8],
     pub pc: u16,
@@ -21,15 +21,14 @@ impl Machine {
     pub(crate) fn reg(&self, x: u8) -> u16
         ensures { result ≡ reg self.now x }
     {
-        self.registers[(x % 8) as usize]
+        self.registers[usize::from(x % 8)]
     }
 
-    pub(crate) fn with_reg(self, x: u8, word: u16) -> Machine
+    pub(crate) fn with_reg(mut self, x: u8, word: u16) -> Machine
         ensures { result ≡ with_reg self x word }
     {
-        let mut machine = self;
-        machine.registers[(x % 8) as usize] = word;
-        machine
+        self.registers[usize::from(x % 8)] = word;
+        self
     }
 
     pub(crate) fn with_pc(self, pc: u16) -> Machine

@@ -3,7 +3,7 @@ ghost use Rattle.std.specs.Prelude.{◌≡◌, cond, if◌then◌else◌, Ok};
 ghost use Rattle.processor.specs.Views.{answer};
 ghost use Rattle.icmc_alu.specs.Conditions.{holds};
 ghost use Rattle.icmc.specs.Machines.{up, down, with_pc, with_sp};
-ghost use Rattle.icmc.specs.Steps.{quiet, into_memory, into_screen, with_key, performed, moved_on, carried_out, meaning, with_operand, fetched, by_mark, next_of};
+ghost use Rattle.icmc.specs.Steps.{quiet, into_cell, into_memory, with_key, performed, carried_out, meaning, with_operand, fetched, next_of};
 
 use crate::machine::Machine;
 use icmc_alu::{Flag, holds, with_flag};
@@ -23,29 +23,13 @@ impl Machine {
         }
     }
 
-    fn into_memory(self, at: u16, word: u16) -> Next<Machine>
-        ensures { Ok result ≡ into_memory at word self }
+    // The same, with a word for a cell.
+    fn into_cell(self, side: Side, at: u16, word: u16) -> Next<Machine>
+        ensures { Ok result ≡ into_cell side at word self }
     {
         Next {
             after: self,
-            write: Some(CellWrite {
-                side: Side::Memory,
-                at,
-                word,
-            }),
-        }
-    }
-
-    fn into_screen(self, at: u16, word: u16) -> Next<Machine>
-        ensures { Ok result ≡ into_screen at word self }
-    {
-        Next {
-            after: self,
-            write: Some(CellWrite {
-                side: Side::Screen,
-                at,
-                word,
-            }),
+            write: Some(CellWrite { side, at, word }),
         }
     }
 
@@ -68,7 +52,8 @@ impl Machine {
     fn push(self, sp: u16, word: u16) -> Next<Machine>
         ensures { Ok result ≡ into_memory sp word (with_sp self (down sp)) }
     {
-        self.with_sp(sp.wrapping_sub(1)).into_memory(sp, word)
+        self.with_sp(sp.wrapping_sub(1))
+            .into_cell(Side::Memory, sp, word)
     }
 
     // A jump: `next` at the second word where the condition holds.
@@ -124,23 +109,24 @@ impl Machine {
             Instruction::Setc => next.with_fr(with_flag(self.fr, Flag::Carry, true)).quiet(),
             Instruction::Clearc => next.with_fr(with_flag(self.fr, Flag::Carry, false)).quiet(),
             Instruction::Load(x) => next.with_reg(x, bus.look(Side::Memory, end)?).quiet(),
-            Instruction::Store(x) => next.into_memory(end, self.reg(x)),
+            Instruction::Store(x) => next.into_cell(Side::Memory, end, self.reg(x)),
             Instruction::Loadn(x) => next.with_reg(x, end).quiet(),
             Instruction::Loadi(x, y) => next
                 .with_reg(x, bus.look(Side::Memory, self.reg(y))?)
                 .quiet(),
-            Instruction::Storei(x, y) => next.into_memory(self.reg(x), self.reg(y)),
+            Instruction::Storei(x, y) => next.into_cell(Side::Memory, self.reg(x), self.reg(y)),
             Instruction::Mov(x, y) => next.with_reg(x, self.reg(y)).quiet(),
             Instruction::MovFromSp(x) => next.with_reg(x, self.sp).quiet(),
             Instruction::MovToSp(x) => next.with_sp(self.reg(x)).quiet(),
-            Instruction::Outchar(x, y) => next.into_screen(self.reg(y), self.reg(x)),
+            Instruction::Outchar(x, y) => next.into_cell(Side::Screen, self.reg(y), self.reg(x)),
             Instruction::Inchar(x) => next.with_key(bus, x).quiet(),
             _ => self.calculate(instruction, next).quiet(),
         })
     }
 }
 
-// What a word means.
+// What a word means, by a definition that stays shut in the proofs of its callers.
+#[tactic(auto, unfolding(crate::specs::Steps::meaning))]
 fn decode(word: u16) -> Result<Instruction, Refusal>
     ensures { result ≡ meaning word }
 {
@@ -148,21 +134,8 @@ fn decode(word: u16) -> Result<Instruction, Refusal>
 }
 
 impl Machine {
-    // PC and mark moved on, then the instruction.
-    fn move_on<B: Bus>(
-        &self,
-        instruction: Instruction,
-        end: u16,
-        bus: &B,
-    ) -> Result<Next<Machine>, Refusal>
-        ensures { result ≡ answer (B.Bus.places bus.now) (moved_on instruction end self.now (B.Bus.view bus.now)) }
-    {
-        let mut next = self.with_pc(self.pc.wrapping_add(instruction.size() as u16));
-        next.remark(instruction);
-        self.perform(instruction, end, next, bus)
-    }
-
-    // An instruction with its second word.
+    // PC and mark moved on, then the instruction with its second word.
+    #[tactic(auto, unfolding(crate::specs::Steps::carried_out))]
     fn carry_out<B: Bus>(
         &self,
         instruction: Instruction,
@@ -171,10 +144,12 @@ impl Machine {
     ) -> Result<Next<Machine>, Refusal>
         ensures { result ≡ answer (B.Bus.places bus.now) (carried_out instruction end self.now (B.Bus.view bus.now)) }
     {
-        self.move_on(instruction, end, bus)
+        let mut next = self.with_pc(self.pc.wrapping_add(instruction.size() as u16));
+        next.remark(instruction);
+        self.perform(instruction, end, next, bus)
     }
 
-    // An instruction, its second word fetched if it has one.
+    // An instruction, its second word fetched if it has one. Two calls, since the loop is slower where one call follows both ways.
     fn with_operand<B: Bus>(
         &self,
         instruction: Instruction,
@@ -185,40 +160,27 @@ impl Machine {
         if instruction.size() != 2 {
             return self.carry_out(instruction, 0, bus);
         }
-        match bus.look(Side::Memory, self.pc.wrapping_add(1)) {
-            Ok(end) => self.carry_out(instruction, end, bus),
-            Err(refusal) => Err(refusal),
-        }
+        let end = bus.look(Side::Memory, self.pc.wrapping_add(1))?;
+        self.carry_out(instruction, end, bus)
     }
 
     // The instruction at PC.
     fn fetch<B: Bus>(&self, bus: &B) -> Result<Next<Machine>, Refusal>
         ensures { result ≡ answer (B.Bus.places bus.now) (fetched self.now (B.Bus.view bus.now)) }
     {
-        match bus.look(Side::Memory, self.pc) {
-            Ok(word) => match decode(word) {
-                Ok(instruction) => self.with_operand(instruction, bus),
-                Err(_) => Err(Cause::Unassigned.at(self.pc as usize)),
-            },
-            Err(refusal) => Err(refusal),
-        }
+        let word = bus.look(Side::Memory, self.pc)?;
+        let instruction = decode(word).map_err(|_| Cause::Unassigned.at(self.pc as usize))?;
+        self.with_operand(instruction, bus)
     }
-}
 
-impl Machine {
     // What comes next: a halted machine does no instruction.
-    fn unless_halted<B: Bus>(&self, bus: &B) -> Result<Next<Machine>, Refusal>
-        ensures { result ≡ answer (B.Bus.places bus.now) (by_mark self.now.mark self.now (B.Bus.view bus.now)) }
+    #[tactic(auto, unfolding(crate::specs::Steps::next_of))]
+    pub(crate) fn next_instruction<B: Bus>(&self, bus: &B) -> Result<Next<Machine>, Refusal>
+        ensures { result ≡ answer (B.Bus.places bus.now) (next_of self.now (B.Bus.view bus.now)) }
     {
         match self.mark {
             Mark::Ready | Mark::AtBreak => self.fetch(bus),
             Mark::Halted => Ok(self.quiet()),
         }
-    }
-
-    pub(crate) fn next_instruction<B: Bus>(&self, bus: &B) -> Result<Next<Machine>, Refusal>
-        ensures { result ≡ answer (B.Bus.places bus.now) (next_of self.now (B.Bus.view bus.now)) }
-    {
-        self.unless_halted(bus)
     }
 }

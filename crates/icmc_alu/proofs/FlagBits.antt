@@ -1,9 +1,11 @@
 -- Flags as bits: writing one flag changes its own bit and no other.
-use Rattle.std.proofs.Common.{◌≡◌, ℕ, zero, suc, ◌+◌, ◌-◌, ◌*◌, ◌/◌, ◌^◌, ◌<◌, min, max, Bool, true, false, cond, not, ◌&&◌, eqb, sym, refl, ap, ◌∙◌, inl, inr, one-mul, zero-mul, arith}
+use Rattle.std.proofs.Common.{◌≡◌, ℕ, ◌+◌, ◌-◌, ◌*◌, ◌/◌, ◌^◌, ◌<◌, min, max, Bool, true, false, cond, not, ◌&&◌, eqb, List, sym, refl, ap, ◌∙◌, inl, inr, one-mul, zero-mul, arith}
 use lib.Bits.{bit_and, bit_or, and_shr, or_shr, and_step, or_step, and_high}
 use Rattle.std.proofs.lemmas.Nat.{pow_pos, pow-add}
-use Rattle.std.proofs.lemmas.Bool.{and_parts, cases_eq, cond-false, eqb-true, ne_eqb, not_from_false}
+use Rattle.std.proofs.lemmas.Bool.{and_parts, cases_eq, cond-false, eqb-true, ne_eqb, not_from_false, false≢true}
 use Rattle.std.proofs.lemmas.Bool.Decides.{nat_tests}
+use Rattle.icmc_words.specs.Tables.{among}
+use Rattle.icmc_words.proofs.Below.{upto, upto_at}
 use Rattle.icmc_alu.specs.declared.flags.Flag.{Flag}
 use Rattle.icmc_alu.specs.declared.flags.Flag.TheVariants.{Greater, Lesser, Equal, Zero, Carry, Overflow, DivisionByZero, StackOverflow, StackUnderflow, Negative}
 use Rattle.icmc_alu.specs.Flags.{place, mask, with_flag, has_flag}
@@ -16,16 +18,6 @@ bit_of_and : (i a b : ℕ) → bit i (bit_and a b) ≡ min (bit i a) (bit i b)
 bit_of_and i a b = rw (and_shr a b i) (omega (arith, and_step (a / 2 ^ i) (b / 2 ^ i)))
 
 -- the bits of one flag's word, and of all the others together
-abbrev upto : ℕ → (ℕ → Bool) → Bool
-upto zero f = true
-upto (suc n) f = f n && upto n f
-
-upto_at : (n : ℕ) (f : ℕ → Bool) → upto n f ≡ true → (k : ℕ) → k < n → f k ≡ true
-upto_at zero f t k h = absurd (omega arith)
-upto_at (suc n) f t k h =
-    let p = and_parts (f n) (upto n f) t in
-    elim (cases_eq k n) [ inl e ↦ rw e p.0 | inr ne ↦ upto_at n f p.1 k (omega arith) ]
-
 abbrev masked : ℕ → ℕ → Bool
 masked k i = eqb (bit i (2 ^ k)) (cond (eqb i k) 1 0) && eqb (bit i (65535 - 2 ^ k)) (cond (eqb i k) 0 1)
 
@@ -83,5 +75,9 @@ has_with g f on fr =
     has_bit g (with_flag f on fr)
     ∙ (ap (λ (b : ℕ). eqb b 1) (bit_with f on fr (place g) (place_lt g)) ∙ told (eqb (place g) (place f)) on)
 
-pub kept_with : (f : Flag) (on : Bool) (fr i : ℕ) → i < 16 → eqb i (place f) ≡ false → bit i (with_flag f on fr) ≡ bit i fr
-kept_with f on fr i h e = bit_with f on fr i h ∙ cond-false (eqb i (place f)) (cond on 1 0) (bit i fr) e
+-- writing a flag whose place is listed keeps the bits at the places that are not
+pub kept_but_at : (places : List ℕ) (i : ℕ) → i < 16 → among places i ≡ false
+    → (f : Flag) (on : Bool) (fr : ℕ) → among places (place f) ≡ true → bit i (with_flag f on fr) ≡ bit i fr
+kept_but_at places i h t f on fr l =
+    let ne : i ≡ place f → ⊥ = λ e. false≢true (sym t ∙ rw e l) in
+    bit_with f on fr i h ∙ cond-false (eqb i (place f)) (cond on 1 0) (bit i fr) (ne_eqb i (place f) ne)

@@ -1,7 +1,8 @@
 use Rattle.std.specs.Prelude.{◌≡◌, ℕ, ◌+◌, ◌*◌, ◌/◌, ◌%◌, ◌^◌, ◌<◌, Bool, true, false, cond, ◌||◌, List, [], ◌∷◌, ◌==◌, nat_lt}
+use Rattle.std.specs.Option.{is_none}
 use Rattle.icmc_words.specs.Tables.{among}
 use Rattle.icmc_alu.specs.Flags.{has_flag}
-use Rattle.icmc_alu.specs.Whole.{arithmetic}
+use Rattle.icmc_alu.specs.Whole.{arithmetic, word_of, is_above, is_below}
 use Rattle.icmc_alu.specs.declared.flags.Flag.TheVariants.{Greater, Lesser, Equal, Zero, Carry, Overflow, DivisionByZero, Negative}
 use Rattle.icmc_alu.specs.declared.arithmetic.Arithmetic.{Arithmetic}
 use Rattle.icmc_alu.specs.declared.arithmetic.Arithmetic.TheVariants.{Sub, Mul}
@@ -17,11 +18,11 @@ KeptButAt places before after = (i : ℕ) → i < 16 → among places i ≡ fals
 
 -- each of the five flags of arithmetic tells what its name says, and every other bit is kept
 pub record FiveFlags (a : Outcome) (before after : ℕ) : Type 0 where
-  pub zero : has_flag Zero after ≡ (a.word == 0)
-  pub carry : has_flag Carry after ≡ a.above
-  pub overflow : has_flag Overflow after ≡ (a.above || a.below)
-  pub by_zero : has_flag DivisionByZero after ≡ a.by_zero
-  pub negative : has_flag Negative after ≡ a.below
+  pub zero : has_flag Zero after ≡ (word_of a == 0)
+  pub carry : has_flag Carry after ≡ is_above a
+  pub overflow : has_flag Overflow after ≡ (is_above a || is_below a)
+  pub by_zero : has_flag DivisionByZero after ≡ is_none a.whole
+  pub negative : has_flag Negative after ≡ is_below a
   pub others : KeptButAt (3 ∷ 4 ∷ 5 ∷ 6 ∷ 9 ∷ []) before after
 
 -- a product above 65,535 sets overflow and carry

@@ -1,5 +1,6 @@
-use Rattle.std.specs.Prelude.{ℕ, ◌/◌, ◌%◌, Bool, false, cond, ◌||◌, ℤ, pos, ◌+ℤ◌, ◌-ℤ◌, ◌*ℤ◌, ◌==◌, int_lt, unsigned_abs}
+use Rattle.std.specs.Prelude.{ℕ, ◌/◌, ◌%◌, Bool, false, cond, ◌||◌, Some, None, ℤ, pos, ◌+ℤ◌, ◌-ℤ◌, ◌*ℤ◌, ◌==◌, int_lt, unsigned_abs}
 use Rattle.std.specs.Int.{int_rem_euclid}
+use Rattle.std.specs.Option.{is_none, unwrap_or}
 use Rattle.icmc_alu.specs.Flags.{with_flag}
 use Rattle.icmc_alu.specs.declared.flags.Flag.TheVariants.{Zero, Carry, Overflow, DivisionByZero, Negative}
 use Rattle.icmc_alu.specs.declared.arithmetic.Arithmetic.{Arithmetic}
@@ -31,27 +32,36 @@ divides_by_zero Mod z = z == 0
 abbrev pub modulo_word : ℤ → ℕ
 modulo_word e = unsigned_abs (int_rem_euclid e (pos 65536))
 
--- what becomes of a whole number: the word, and on which side of the words it lies
-abbrev pub outcome : ℤ → Bool → Outcome
-outcome e zero_divisor =
-    record { word = modulo_word e; above = int_lt (pos 65535) e; below = int_lt e (pos 0); by_zero = zero_divisor }
-
--- each operation on words
+-- what each operation makes: its whole number, but none where it divides by zero
 abbrev pub arithmetic : Arithmetic → ℕ → ℕ → Bool → Outcome
-arithmetic o y z c = outcome (whole o y z c) (divides_by_zero o z)
+arithmetic o y z c = record { whole = cond (divides_by_zero o z) None (Some (whole o y z c)) }
+
+-- where none was made, 0 stands for it
+abbrev pub number_of : Outcome → ℤ
+number_of a = unwrap_or a.whole (pos 0)
+
+abbrev pub word_of : Outcome → ℕ
+word_of a = modulo_word (number_of a)
+
+-- on which side of the words it lies
+abbrev pub is_above : Outcome → Bool
+is_above a = int_lt (pos 65535) (number_of a)
+
+abbrev pub is_below : Outcome → Bool
+is_below a = int_lt (number_of a) (pos 0)
 
 -- FR after arithmetic: five flags are written
 abbrev pub five_flags : Outcome → ℕ → ℕ
 five_flags a fr =
-    with_flag Zero (a.word == 0)
-    (with_flag Carry a.above
-    (with_flag Overflow (a.above || a.below)
-    (with_flag Negative a.below
-    (with_flag DivisionByZero a.by_zero fr))))
+    with_flag Zero (word_of a == 0)
+    (with_flag Carry (is_above a)
+    (with_flag Overflow (is_above a || is_below a)
+    (with_flag Negative (is_below a)
+    (with_flag DivisionByZero (is_none a.whole) fr))))
 
 -- the word of an operation, and FR after it
 abbrev pub performed : Arithmetic → ℕ → ℕ → Bool → ℕ → Executed
-performed o y z c before = record { word = (arithmetic o y z c).word; fr = five_flags (arithmetic o y z c) before }
+performed o y z c before = record { word = word_of (arithmetic o y z c); fr = five_flags (arithmetic o y z c) before }
 
 -- the same, shut for those that need not look inside
 unfoldable pub executed : Arithmetic → ℕ → ℕ → Bool → ℕ → Executed

@@ -3,7 +3,7 @@ ghost use Rattle.std.specs.Prelude.{◌≡◌};
 ghost use Rattle.icmc_alu.specs.Flags.{mask, with_flag, has_flag, with_zero};
 
 // From bit 0 up.
-#[derive(Clone, Copy)]
+#[derive(Clone, Copy, Debug, PartialEq, Eq)]
 pub enum Flag {
     Greater,
     Lesser,
@@ -22,18 +22,7 @@ impl Flag {
     pub fn mask(self) -> u16
         ensures { result ≡ mask self }
     {
-        match self {
-            Flag::Greater => 1,
-            Flag::Lesser => 2,
-            Flag::Equal => 4,
-            Flag::Zero => 8,
-            Flag::Carry => 16,
-            Flag::Overflow => 32,
-            Flag::DivisionByZero => 64,
-            Flag::StackOverflow => 128,
-            Flag::StackUnderflow => 256,
-            Flag::Negative => 512,
-        }
+        1 << self as u16
     }
 }
 

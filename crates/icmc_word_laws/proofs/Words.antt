@@ -1,12 +1,13 @@
-use Rattle.std.proofs.Common.{◌≡◌, ℕ, zero, suc, ◌+◌, ◌*◌, ◌/◌, ◌%◌, ◌<◌, Bool, true, false, cond, not, ◌&&◌, eqb, ltb, List, [], ◌∷◌, ◌++◌, is_ok, Ok, Err, Result, sym, refl, ap, ◌∙◌, subst, inl, inr, arith}
-use Rattle.std.specs.List.{AllByRecursion}
-use Rattle.std.proofs.lemmas.Bool.{and_parts, or_cases, or_parts, or_from, and_left, eqb-true, not-true, not_from_false, cases_eq, cases_Bool, cond-false, cond-true, cond_both, false≢true}
+use Rattle.std.proofs.Common.{◌≡◌, ℕ, ◌+◌, ◌*◌, ◌/◌, ◌%◌, Bool, true, false, cond, not, ◌&&◌, eqb, ltb, List, [], ◌∷◌, ◌++◌, is_ok, Ok, Err, Result, sym, refl, ap, ◌∙◌, subst, inl, inr, arith}
+use Rattle.std.specs.List.{AllByRecursion, list_all}
+use Rattle.std.proofs.lemmas.Bool.{and_parts, or_cases, or_parts, or_from, and_left, eqb-true, not-true, not_from_false, cases_Bool, cond-false, cond-true, cond_both, false≢true}
 use Rattle.refusal.specs.declared.Refusal.{Refusal}
 use Rattle.refusal.specs.declared.Cause.TheVariants.{Unassigned}
 use Rattle.refusal.specs.Numbers.{refused}
 use Rattle.icmc_words.specs.declared.instruction.Instruction.{Instruction}
 use Rattle.icmc_words.specs.declared.instruction.Instruction.TheVariants.{Jump, Call, Loadn}
 use Rattle.icmc_words.specs.Tables.{row_at, among}
+use Rattle.icmc_words.proofs.Below.{upto, upto_at}
 use Rattle.icmc_words.specs.Conditions.{condition_at}
 use Rattle.icmc_words.specs.Decoded.{bit, op_of, x_of, y_of, z_of, k_of, unassigned, control_rows, calculation_rows, transfer_rows, transfer, calculation, decoded}
 use Rattle.icmc_words.specs.Encoded.{encoded}
@@ -25,120 +26,22 @@ abbrev agrees : Result Instruction Refusal → ℕ → Bool
 agrees (Ok i) w = assigned w && is_word (encoded i) (cleared w)
 agrees (Err e) w = not (assigned w)
 
--- the test passes at each number below n
-abbrev upto : ℕ → (ℕ → Bool) → Bool
-upto zero f = true
-upto (suc n) f = f n && upto n f
-
-upto_at : (n : ℕ) (f : ℕ → Bool) → upto n f ≡ true → (k : ℕ) → k < n → f k ≡ true
-upto_at zero f t k h = absurd (omega arith)
-upto_at (suc n) f t k h =
-    let p = and_parts (f n) (upto n f) t in
-    elim (cases_eq k n) [ inl e ↦ rw e p.0 | inr ne ↦ upto_at n f p.1 k (omega arith) ]
-
 abbrev part : ℕ → Bool
 part op = upto 1024 (λ low. agrees (decoded (op * 1024 + low)) (op * 1024 + low))
 
--- one declaration for each op code: a long one is slow
-part_00 : part 0x00 ≡ true
-part_00 = refl
+parts : list_all part op_codes ≡ true
+parts = refl
 
-part_02 : part 0x02 ≡ true
-part_02 = refl
-
-part_03 : part 0x03 ≡ true
-part_03 = refl
-
-part_04 : part 0x04 ≡ true
-part_04 = refl
-
-part_05 : part 0x05 ≡ true
-part_05 = refl
-
-part_06 : part 0x06 ≡ true
-part_06 = refl
-
-part_08 : part 0x08 ≡ true
-part_08 = refl
-
-part_0e : part 0x0e ≡ true
-part_0e = refl
-
-part_0f : part 0x0f ≡ true
-part_0f = refl
-
-part_10 : part 0x10 ≡ true
-part_10 = refl
-
-part_12 : part 0x12 ≡ true
-part_12 = refl
-
-part_13 : part 0x13 ≡ true
-part_13 = refl
-
-part_14 : part 0x14 ≡ true
-part_14 = refl
-
-part_15 : part 0x15 ≡ true
-part_15 = refl
-
-part_16 : part 0x16 ≡ true
-part_16 = refl
-
-part_20 : part 0x20 ≡ true
-part_20 = refl
-
-part_21 : part 0x21 ≡ true
-part_21 = refl
-
-part_22 : part 0x22 ≡ true
-part_22 = refl
-
-part_23 : part 0x23 ≡ true
-part_23 = refl
-
-part_24 : part 0x24 ≡ true
-part_24 = refl
-
-part_25 : part 0x25 ≡ true
-part_25 = refl
-
-part_30 : part 0x30 ≡ true
-part_30 = refl
-
-part_31 : part 0x31 ≡ true
-part_31 = refl
-
-part_32 : part 0x32 ≡ true
-part_32 = refl
-
-part_33 : part 0x33 ≡ true
-part_33 = refl
-
-part_35 : part 0x35 ≡ true
-part_35 = refl
-
-part_38 : part 0x38 ≡ true
-part_38 = refl
-
-part_3c : part 0x3c ≡ true
-part_3c = refl
-
-part_3d : part 0x3d ≡ true
-part_3d = refl
-
-parts : AllByRecursion (λ op. part op ≡ true) op_codes
-parts = (part_00, (part_02, (part_03, (part_04, (part_05, (part_06, (part_08, (part_0e, (part_0f, (part_10, (part_12, (part_13, (part_14, (part_15, (part_16, (part_20, (part_21, (part_22, (part_23, (part_24, (part_25, (part_30, (part_31, (part_32, (part_33, (part_35, (part_38, (part_3c, (part_3d, tt)))))))))))))))))))))))))))))
-
-all_at : (P : ℕ → Type 0) (ns : List ℕ) → AllByRecursion P ns → (n : ℕ) → among ns n ≡ true → P n
-all_at P [] a n t = absurd (false≢true t)
-all_at P (m ∷ ms) a n t =
+passed : (test : ℕ → Bool) (ns : List ℕ) → list_all test ns ≡ true → (n : ℕ) → among ns n ≡ true → test n ≡ true
+passed test [] a n t = absurd (false≢true t)
+passed test (m ∷ ms) a n t =
+    let p = and_parts (test m) (list_all test ms) a in
     elim (or_cases (eqb n m) (among ms n) t)
-    [ inl e ↦ subst P (sym (eqb-true n m e)) a.0 | inr u ↦ all_at P ms a.1 n u ]
+    [ inl e ↦ subst (λ (k : ℕ). test k ≡ true) (sym (eqb-true n m e)) p.0 | inr u ↦ passed test ms p.1 n u ]
 
 listed_agrees : (w : ℕ) → among op_codes (op_of w) ≡ true → agrees (decoded w) w ≡ true
 listed_agrees w t =
-    let p = all_at (λ op. part op ≡ true) op_codes parts (op_of w) t in
+    let p = passed part op_codes parts (op_of w) t in
     let a = upto_at 1024 (λ low. agrees (decoded (w / 1024 * 1024 + low)) (w / 1024 * 1024 + low)) p (w % 1024) (omega arith) in
     let e : w / 1024 * 1024 + w % 1024 ≡ w = omega arith in
     subst (λ (v : ℕ). agrees (decoded v) v ≡ true) e a

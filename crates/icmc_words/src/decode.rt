@@ -13,7 +13,7 @@ fn bit(word: u16, i: u8) -> bool
     (word >> i) % 2 == 1
 }
 
-// A shift's kind, by bits 6 to 4.
+// A shift's kind, by bits 6 to 4: three bits, which all have one, so no conversion that could fail.
 fn shift(kind: u8) -> ShiftKind
     ensures { result ≡ shift_at kind }
 {

@@ -1,8 +1,8 @@
 // From instructions to words.
 ghost use Rattle.std.specs.Prelude.{◌≡◌, ◌<◌, [], ◌∷◌};
-ghost use Rattle.icmc_words.specs.Encoded.{layout, kind_bits, joined, encoded, in_x, in_y, in_z, in_n};
+ghost use Rattle.icmc_words.specs.Encoded.{layout, joined, encoded};
 
-use crate::instruction::{Instruction, ShiftKind};
+use crate::instruction::Instruction;
 use refusal::{Cause, Refusal};
 
 impl Instruction {
@@ -58,9 +58,8 @@ impl Instruction {
         ensures within { result < 1024 }
     {
         match self {
-            Instruction::Jump(condition) | Instruction::Call(condition) => condition.number() as u16
-                * 64,
-            Instruction::Shift(kind, _, _) => kind_bits(kind) * 16,
+            Instruction::Jump(condition) | Instruction::Call(condition) => condition as u16 * 64,
+            Instruction::Shift(kind, _, _) => kind as u16 * 16,
             Instruction::PushFr | Instruction::PopFr | Instruction::Dec(..) => 64,
             Instruction::Setc => 512,
             Instruction::Addc(..) | Instruction::Subc(..) => 1,
@@ -79,79 +78,45 @@ impl Instruction {
             Instruction::Push(x)
             | Instruction::Pop(x)
             | Instruction::Inc(x)
-            | Instruction::Dec(x) => one_register(x),
-            Instruction::Load(x)
+            | Instruction::Dec(x)
+            | Instruction::Load(x)
             | Instruction::Store(x)
             | Instruction::Loadn(x)
-            | Instruction::Inchar(x) => one_register(x),
-            Instruction::MovFromSp(x) | Instruction::MovToSp(x) => one_register(x),
-            Instruction::Not(x, y) | Instruction::Cmp(x, y) | Instruction::Mov(x, y) =>
-                two_registers(x, y),
-            Instruction::Loadi(x, y) | Instruction::Storei(x, y) | Instruction::Outchar(x, y) =>
-                two_registers(x, y),
-            Instruction::And(x, y, z) | Instruction::Or(x, y, z) | Instruction::Xor(x, y, z) =>
-                three_registers(x, y, z),
-            Instruction::Add(x, y, z) | Instruction::Addc(x, y, z) => three_registers(x, y, z),
-            Instruction::Sub(x, y, z) | Instruction::Subc(x, y, z) => three_registers(x, y, z),
-            Instruction::Mul(x, y, z) | Instruction::Mulc(x, y, z) => three_registers(x, y, z),
-            Instruction::Div(x, y, z) | Instruction::Divc(x, y, z) => three_registers(x, y, z),
-            Instruction::Mod(x, y, z) => three_registers(x, y, z),
-            Instruction::Shift(_, x, n) => register_and_count(x, n),
+            | Instruction::Inchar(x)
+            | Instruction::MovFromSp(x)
+            | Instruction::MovToSp(x) => field(x, 8, 128),
+            Instruction::Not(x, y)
+            | Instruction::Cmp(x, y)
+            | Instruction::Mov(x, y)
+            | Instruction::Loadi(x, y)
+            | Instruction::Storei(x, y)
+            | Instruction::Outchar(x, y) => Ok(field(x, 8, 128)? + field(y, 8, 16)?),
+            Instruction::And(x, y, z)
+            | Instruction::Or(x, y, z)
+            | Instruction::Xor(x, y, z)
+            | Instruction::Add(x, y, z)
+            | Instruction::Addc(x, y, z)
+            | Instruction::Sub(x, y, z)
+            | Instruction::Subc(x, y, z)
+            | Instruction::Mul(x, y, z)
+            | Instruction::Mulc(x, y, z)
+            | Instruction::Div(x, y, z)
+            | Instruction::Divc(x, y, z)
+            | Instruction::Mod(x, y, z) => Ok(
+                field(x, 8, 128)? + field(y, 8, 16)? + field(z, 8, 2)?,
+            ),
+            Instruction::Shift(_, x, n) => Ok(field(x, 8, 128)? + field(n, 16, 1)?),
             _ => Ok(0),
         }
     }
 }
 
-// A shift's kind as bits 6 to 4; of two codes for a rotation, the lower.
-fn kind_bits(kind: ShiftKind) -> u16
-    ensures value { result ≡ kind_bits kind }
-    ensures within { result < 8 }
+// What an operand adds to the word, its lowest bit being worth `unit`; one that is not below the bound is refused.
+fn field(value: u8, bound: u8, unit: u8) -> Result<u16, Refusal>
+    ensures { result ≡ joined (record { value = value; bound = bound; unit = unit } ∷ []) }
 {
-    match kind {
-        ShiftKind::LeftZeros => 0,
-        ShiftKind::LeftOnes => 1,
-        ShiftKind::RightZeros => 2,
-        ShiftKind::RightOnes => 3,
-        ShiftKind::RotateLeft => 4,
-        ShiftKind::RotateRight => 6,
-    }
-}
-
-fn one_register(x: u8) -> Result<u16, Refusal>
-    ensures { result ≡ joined (in_x x ∷ []) }
-{
-    if x < 8 {
-        Ok(x as u16 * 128)
-    } else {
-        Err(Cause::OutOfRange.at(0))
-    }
-}
-
-fn two_registers(x: u8, y: u8) -> Result<u16, Refusal>
-    ensures { result ≡ joined (in_x x ∷ in_y y ∷ []) }
-{
-    if x < 8 && y < 8 {
-        Ok(x as u16 * 128 + y as u16 * 16)
-    } else {
-        Err(Cause::OutOfRange.at(0))
-    }
-}
-
-fn three_registers(x: u8, y: u8, z: u8) -> Result<u16, Refusal>
-    ensures { result ≡ joined (in_x x ∷ in_y y ∷ in_z z ∷ []) }
-{
-    if x < 8 && y < 8 && z < 8 {
-        Ok(x as u16 * 128 + y as u16 * 16 + z as u16 * 2)
-    } else {
-        Err(Cause::OutOfRange.at(0))
-    }
-}
-
-fn register_and_count(x: u8, n: u8) -> Result<u16, Refusal>
-    ensures { result ≡ joined (in_x x ∷ in_n n ∷ []) }
-{
-    if x < 8 && n < 16 {
-        Ok(x as u16 * 128 + n as u16)
+    if value < bound {
+        Ok(u16::from(value) * u16::from(unit))
     } else {
         Err(Cause::OutOfRange.at(0))
     }

@@ -26,18 +26,7 @@ pub enum Condition {
 }
 
 impl Condition {
-    // The condition of a number, 0 to 14; any other is refused.
-    pub fn numbered(k: u8) -> Result<Condition, Refusal>
-        ensures { result ≡ numbered k }
-    {
-        if k < 15 {
-            Ok(Condition::at(k))
-        } else {
-            Err(Cause::OutOfRange.at(0))
-        }
-    }
-
-    // The condition of a number below 15.
+    // The condition of a number below 15: the guards of the decoder see to that, with a refusal of their own.
     pub(crate) fn at(k: u8) -> Condition
         ensures { result ≡ condition_at k }
     {
@@ -59,24 +48,42 @@ impl Condition {
             _ => Condition::DivisionByZero,
         }
     }
+}
 
-    // The condition's number.
-    pub fn number(self) -> u8
-        ensures { result ≡ number self }
-    {
-        self as u8
+// The condition of a number, 0 to 14; any other is refused.
+impl TryFrom<u8> for Condition {
+    type Error = Refusal;
+
+    ghost try_from_gives = { λ k r. r ≡ numbered k };
+
+    fn try_from(k: u8) -> Result<Condition, Refusal> {
+        if k < 15 {
+            Ok(Condition::at(k))
+        } else {
+            Err(Cause::OutOfRange.at(0))
+        }
     }
 }
 
-// What moves into the places that a shift leaves: zeros, ones, or the bits that fell out.
+// The condition's number.
+impl From<Condition> for u8 {
+    ghost from_gives = { λ condition k. k ≡ number condition };
+
+    fn from(condition: Condition) -> u8 {
+        condition as u8
+    }
+}
+
+// What moves into the places that a shift leaves: zeros, ones, or the bits that fell out. Each is numbered as bits 6 to 4 of its word
+// say it; of two codes for a rotation, the lower.
 #[derive(Clone, Copy, Debug, PartialEq, Eq)]
 pub enum ShiftKind {
-    LeftZeros,
-    LeftOnes,
-    RightZeros,
-    RightOnes,
-    RotateLeft,
-    RotateRight,
+    LeftZeros = 0,
+    LeftOnes = 1,
+    RightZeros = 2,
+    RightOnes = 3,
+    RotateLeft = 4,
+    RotateRight = 6,
 }
 
 // An instruction with its operands in the order in which they are written: registers, 0 to 7; for a shift a register and the count,
