@@ -25,8 +25,8 @@ use Rattle.page_text.specs.declared.form.Loads.{Loads}
 use Rattle.page_text.specs.declared.form.Loads.TheVariants as load
 use Rattle.page_text.specs.declared.statement.Operand.{Operand}
 use Rattle.page_text.specs.Forms.{on_none, on_one, on_two, on_three, on_stack, on_load}
-use Rattle.page_text.specs.Grammar.{Part, register, register_or, number, address, name, comma, plus, letters}
-use Rattle.page_text.specs.Sayings.{Saying, one, two, room, text, fixed, then, ended, one_word, two_words, mov_from, mov_to, operands, by_form, by_word, statement, line_read}
+use Rattle.page_text.specs.Grammar.{Part, then, register, register_or, number, address, name, comma, plus, letters}
+use Rattle.page_text.specs.Sayings.{Saying, one, two, room, text, fixed, ended, one_word, two_words, mov_from, mov_to, operands, by_form, by_word, statement, line_read}
 use Rattle.page_text.specs.Sound.{Sound}
 use Rattle.page_text.specs.Table.{form_named}
 

@@ -1,4 +1,4 @@
-use Rattle.std.specs.Prelude.{ℕ, ◌-◌, Bool, true, false, cond, ◌&&◌, List, [], ◌∷◌, Some, None, Ok, Err, Option, Result, MatchResult, ◌≡◌, ◌==◌, nat_le, slice_index}
+use Rattle.std.specs.Prelude.{ℕ, zero, suc, ◌-◌, Bool, true, false, cond, ◌&&◌, List, [], ◌∷◌, Some, None, Ok, Err, Option, Result, MatchResult, ◌≡◌, ◌==◌, nat_le, slice_index}
 use Rattle.refusal.specs.declared.Cause.{Cause}
 use Rattle.refusal.specs.declared.Cause.TheVariants.{Malformed, OutOfRange}
 use Rattle.page_tokens.specs.declared.name.Name.{Name}
@@ -23,6 +23,11 @@ ReadsBy view p r ts = MatchResult r (λ x. p ≡ Ok (view x, rest ts)) (λ e. p 
 
 abbrev pub Reads : {A : Type 0} → Part A → Result A Cause → Tokens → Type 0
 Reads p r ts = ReadsBy (λ x. x) p r ts
+
+-- on with the tokens after a part
+abbrev pub then : {A B : Type 0} → Part A → (A → List Symbol → Result B Cause) → Result B Cause
+then (Ok p) f = f p.0 p.1
+then (Err e) f = Err e
 
 -- what was right, with the tokens that are left
 abbrev pub before : {A : Type 0} → List Symbol → Result A Cause → Part A
@@ -105,3 +110,15 @@ name_or_number (Some n) o = Ok (Label n)
 abbrev pub address : List Symbol → Part Operand
 address [] = Err Malformed
 address (s ∷ ss) = before ss (name_or_number (word_in s) (number_in s))
+
+-- n registers, each after a comma; and with commas between them alone
+abbrev pub with_register : Part ℕ → (List Symbol → Part (List ℕ)) → Part (List ℕ)
+with_register p f = then p (λ x ss. then (f ss) (λ xs ss. Ok (x ∷ xs, ss)))
+
+abbrev pub more_registers : ℕ → List Symbol → Part (List ℕ)
+more_registers zero ss = Ok ([], ss)
+more_registers (suc n) ss = then (comma ss) (λ _ ss. with_register (register ss) (more_registers n))
+
+abbrev pub registers : ℕ → List Symbol → Part (List ℕ)
+registers zero ss = Ok ([], ss)
+registers (suc n) ss = with_register (register ss) (more_registers n)

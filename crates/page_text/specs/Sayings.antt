@@ -15,7 +15,7 @@ use Rattle.page_text.specs.declared.statement.Operand.{Operand}
 use Rattle.page_text.specs.declared.statement.Statement.{Statement}
 use Rattle.page_text.specs.declared.statement.Statement.TheVariants as stated
 use Rattle.page_text.specs.Forms.{on_none, on_one, on_two, on_three, on_stack, on_load}
-use Rattle.page_text.specs.Grammar.{Part, register, register_or, number, address, name, comma, plus, letters}
+use Rattle.page_text.specs.Grammar.{then, register, register_or, number, address, name, comma, plus, letters}
 use Rattle.page_text.specs.Table.{form_named}
 
 -- what a line says: nothing; an instruction, with its second word if it has one; so many words of 0; letters; or a word of a variable
@@ -38,11 +38,6 @@ saying_of (stated.Static n p v) = fixed n p v
 abbrev pub said : Result Statement Cause → Result Saying Cause
 said (Ok s) = Ok (saying_of s)
 said (Err e) = Err e
-
--- on with the tokens after a part
-abbrev pub then : {A : Type 0} → Part A → (A → List Symbol → Result Saying Cause) → Result Saying Cause
-then (Ok p) f = f p.0 p.1
-then (Err e) f = Err e
 
 -- a statement that ends its line
 abbrev pub ended : Saying → List Symbol → Result Saying Cause

@@ -1,8 +1,8 @@
 // The parts of a statement.
 ghost use Rattle.std.specs.Option.{option_map};
-ghost use Rattle.std.specs.Prelude.{◌≡◌};
+ghost use Rattle.std.specs.Prelude.{◌≡◌, map};
 ghost use Rattle.page_tokens.specs.Symbols.{symbol_of};
-ghost use Rattle.page_text.specs.Grammar.{rest, Reads, ReadsBy, register, register_or, in_range, number, address, name, sign, letters};
+ghost use Rattle.page_text.specs.Grammar.{rest, Reads, ReadsBy, register, register_or, registers, in_range, number, address, name, sign, letters};
 
 use crate::register::Register;
 use crate::statement::Operand;
@@ -80,4 +80,18 @@ pub(crate) fn expect(tokens: &mut Tokens<'_>, token: Token<'_>) -> Result<(), Ca
         return Err(Cause::Malformed);
     }
     Ok(())
+}
+
+// N registers, with commas between them.
+pub(crate) fn registers<const N: usize>(tokens: &mut Tokens<'_>) -> Result<[Register; N], Cause>
+    ensures { ReadsBy (map (λ x. x.number)) (registers N (rest tokens.old)) result tokens.new }
+{
+    let mut registers = [Register::R0; N];
+    for (i, place) in registers.iter_mut().enumerate() {
+        if i > 0 {
+            expect(tokens, Token::Comma)?;
+        }
+        *place = register(tokens)?;
+    }
+    Ok(registers)
 }

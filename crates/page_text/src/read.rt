@@ -1,12 +1,12 @@
 // Statements read by their forms.
 ghost use Rattle.std.specs.Prelude.{◌≡◌, Some};
-ghost use Rattle.page_text.specs.declared.form.Form.TheVariants.{One, Two, Three, Stack, Mov, Shift, Load, Store, Jump, Call, Var, Text, Static};
-ghost use Rattle.page_text.specs.Grammar.{rest, address};
-ghost use Rattle.page_text.specs.Sayings.{said, saying_of, then, ended, one_word, two_words, mov_to, operands};
+ghost use Rattle.page_text.specs.declared.form.Form.TheVariants.{Stack, Mov, Shift, Load, Store, Jump, Call, Var, Text, Static};
+ghost use Rattle.page_text.specs.Grammar.{rest, then, address};
+ghost use Rattle.page_text.specs.Sayings.{said, saying_of, ended, one_word, two_words, mov_to, operands};
 
 use crate::encodable::Encodable;
-use crate::form::{Form, Loads, OnStack, OneRegister, ThreeRegisters, TwoRegisters};
-use crate::operand::{address, expect, letters, name, number, register, register_or};
+use crate::form::{Form, Loads, OnStack};
+use crate::operand::{address, expect, letters, name, number, register, register_or, registers};
 use crate::register::Register;
 use crate::statement::{Operand, Statement};
 use crate::table::{FR, SP};
@@ -40,33 +40,6 @@ fn two_words<'a>(
     ensures { said result ≡ two_words encodable.instruction operand (rest tokens.old) }
 {
     end(tokens, Statement::TwoWords(encodable.instruction, operand))
-}
-
-fn read_one<'a>(tokens: &mut Tokens<'_>, form: OneRegister) -> Result<Statement<'a>, Cause>
-    ensures { said result ≡ operands (One form) (rest tokens.old) }
-{
-    let x = register(tokens)?;
-    one_word(tokens, form.instruction(x))
-}
-
-fn read_two<'a>(tokens: &mut Tokens<'_>, form: TwoRegisters) -> Result<Statement<'a>, Cause>
-    ensures { said result ≡ operands (Two form) (rest tokens.old) }
-{
-    let x = register(tokens)?;
-    expect(tokens, Token::Comma)?;
-    let y = register(tokens)?;
-    one_word(tokens, form.instruction(x, y))
-}
-
-fn read_three<'a>(tokens: &mut Tokens<'_>, form: ThreeRegisters) -> Result<Statement<'a>, Cause>
-    ensures { said result ≡ operands (Three form) (rest tokens.old) }
-{
-    let x = register(tokens)?;
-    expect(tokens, Token::Comma)?;
-    let y = register(tokens)?;
-    expect(tokens, Token::Comma)?;
-    let z = register(tokens)?;
-    one_word(tokens, form.instruction(x, y, z))
 }
 
 fn read_shift<'a>(tokens: &mut Tokens<'_>, kind: ShiftKind) -> Result<Statement<'a>, Cause>
@@ -176,9 +149,18 @@ pub(crate) fn read_operands<'a>(tokens: &mut Tokens<'a>, form: Form) -> Result<S
 {
     match form {
         Form::Alone(form) => one_word(tokens, form.instruction()),
-        Form::One(form) => read_one(tokens, form),
-        Form::Two(form) => read_two(tokens, form),
-        Form::Three(form) => read_three(tokens, form),
+        Form::One(form) => {
+            let x = register(tokens)?;
+            one_word(tokens, form.instruction(x))
+        }
+        Form::Two(form) => {
+            let [x, y] = registers::<2>(tokens)?;
+            one_word(tokens, form.instruction(x, y))
+        }
+        Form::Three(form) => {
+            let [x, y, z] = registers::<3>(tokens)?;
+            one_word(tokens, form.instruction(x, y, z))
+        }
         Form::Stack(form) => read_on_stack(tokens, form),
         Form::Mov => read_mov(tokens),
         Form::Shift(kind) => read_shift(tokens, kind),

@@ -11,6 +11,10 @@ pub(crate) struct Register {
     ghost within: { number < 8 },
 }
 
+impl Register {
+    pub(crate) const R0: Register = Register { number: 0 };
+}
+
 // By `r0` to `r7`.
 impl TryFrom<&Name> for Register {
     type Error = Cause;

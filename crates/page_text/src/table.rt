@@ -1,6 +1,6 @@
 // The statements by their names.
 ghost use Rattle.std.specs.Prelude.{◌≡◌};
-ghost use Rattle.page_text.specs.Table.{find_row, form_named};
+ghost use Rattle.page_text.specs.Table.{form_named};
 
 use crate::form::{Form, Loads, NoRegisters, OnStack, OneRegister, ThreeRegisters, TwoRegisters};
 use icmc_words::{Condition, ShiftKind};
@@ -287,18 +287,11 @@ const ROWS: [([u8; 32], Form); 71] = [
     (*b"static                          ", Form::Static),
 ];
 
-// The form of the first row with a name.
-fn find(rows: &[([u8; 32], Form)], name: &Name) -> Option<Form>
-    ensures { result ≡ find_row rows.now name.now }
-{
-    rows.iter()
-        .find(|row| row.0 == name.letters)
-        .map(|row| row.1)
-}
-
 // The form of the statement with a name, if there is one.
 pub(crate) fn form_named(name: &Name) -> Option<Form>
     ensures { result ≡ form_named name.now }
 {
-    find(&ROWS, name)
+    ROWS.iter()
+        .find(|row| row.0 == name.letters)
+        .map(|row| row.1)
 }
