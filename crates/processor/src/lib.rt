@@ -6,14 +6,14 @@ pub mod devices;
 pub mod step;
 
 // Where a cell lies.
-#[derive(Clone, Copy)]
+#[derive(Clone, Copy, Debug, PartialEq, Eq)]
 pub enum Side {
     Memory,
     Screen,
 }
 
 // How the last instruction left the processor.
-#[derive(Clone, Copy)]
+#[derive(Clone, Copy, Debug, PartialEq, Eq)]
 pub enum Mark {
     Ready,
     AtBreak,
@@ -21,7 +21,7 @@ pub enum Mark {
 }
 
 // A word for one cell.
-#[derive(Clone, Copy)]
+#[derive(Clone, Copy, Debug, PartialEq, Eq)]
 pub struct CellWrite {
     pub side: Side,
     pub at: u16,
@@ -29,7 +29,7 @@ pub struct CellWrite {
 }
 
 // The processor after an instruction, and the cell that the instruction writes.
-#[derive(Clone, Copy)]
+#[derive(Clone, Copy, Debug, PartialEq, Eq)]
 pub struct Next<P> {
     pub after: P,
     pub write: Option<CellWrite>,
