@@ -58,16 +58,16 @@ module _ {P : Type 0} (d : Snapshot P) (e : Entry P) (m k : ℕ) (some : 0 < d.u
 by_ok : {P : Type 0} (d : Snapshot P) (m k : ℕ) (q : Places) (x : Result (Moved P) Fault) → Ok tt ≡ noted_answer q x → take_case d m k x ≡ backs_on m (k + 1) (undone x d)
 unfolding take_case
 by_ok d m k q (Ok s) h = refl
-by_ok d m k q (Err f) h = absurd (let z : ◌≡◌ {A = ℕ} 0 1 = cc in omega arith)
+by_ok d m k q (Err f) h = cc
 
 by_err : {P : Type 0} (d : Snapshot P) (m k : ℕ) (q : Places) (x : Result (Moved P) Fault) (y : Refusal) → Err y ≡ noted_answer q x → (f : Fault) × (take_case d m k x ≡ gone (undone x d) k (Some f)) × (y ≡ told q f)
 unfolding take_case
-by_err d m k q (Ok s) y h = absurd (let z : ◌≡◌ {A = ℕ} 0 1 = cc in omega arith)
+by_err d m k q (Ok s) y h = cc
 by_err d m k q (Err f) y h = (f, refl, cc)
 
 ok_used : {P : Type 0} (q : Places) (x : Result (Moved P) Fault) (d : Snapshot P) → Ok tt ≡ noted_answer q x → (undone x d).used ≡ d.used - 1
 ok_used q (Ok s) d h = refl
-ok_used q (Err f) d h = absurd (let z : ◌≡◌ {A = ℕ} 0 1 = cc in omega arith)
+ok_used q (Err f) d h = cc
 
 -- as the loop of a back meets it: d before the turn, b after it
 module _ {P : Type 0} (p q : Places) (d b : Snapshot P) (e : Entry P) (n k : ℕ) (x : Gone P) (told_same : q ≡ p) (h : k < n) (few : n - k ≤ d.used) (there : d.used ≤ length d.slots) (is : Some e ≡ last_record d.used d.slots) (whole : backs_on (n - k) k d ≡ x) (after : b ≡ undone (restored d.state e) d) where

@@ -1,4 +1,4 @@
-use Rattle.std.proofs.Common.{◌≡◌, ℕ, ◌+◌, ◌<◌, ◌≤◌, Bool, true, false, cond, eqb, List, [], ◌∷◌, length, get_or, drop, Some, None, Ok, Err, Option, Result, sym, refl, ap, ◌∙◌, arith}
+use Rattle.std.proofs.Common.{◌≡◌, ℕ, ◌+◌, ◌<◌, ◌≤◌, Bool, true, false, cond, eqb, List, [], ◌∷◌, length, get_or, drop, Some, None, Ok, Err, Option, Result, sym, refl, ap, ◌∙◌}
 use Rattle.std.proofs.lemmas.List.{at_drop_more, at_drop_all}
 use Rattle.refusal.specs.declared.Refusal.{Refusal}
 use Rattle.processor.specs.declared.Side.TheVariants.{Memory}
@@ -26,10 +26,10 @@ write_with v (Some p) ps = refl
 
 then_ok : (p : Places) (o x : Result Unit Fault) → Ok tt ≡ answer p o → then o x ≡ x
 then_ok p (Ok u) x h = refl
-then_ok p (Err f) x h = absurd (let z : ◌≡◌ {A = ℕ} 0 1 = cc in omega arith)
+then_ok p (Err f) x h = cc
 
 then_err : (p : Places) (o x : Result Unit Fault) (e : Refusal) → Err e ≡ answer p o → Err e ≡ answer p (then o x)
-then_err p (Ok u) x e h = absurd (let z : ◌≡◌ {A = ℕ} 0 1 = cc in omega arith)
+then_err p (Ok u) x e h = cc
 then_err p (Err f) x e h = h
 
 module _ (p : Places) (v : View) (ws : List ℕ) (i place : ℕ) (whole : probe_all v (puts_from place (drop i ws)) ≡ probe_all v (puts ws)) where
@@ -63,7 +63,7 @@ still_cell o false a w h = h
 
 first_ok : (o x : Result Unit Fault) → then o x ≡ Ok tt → (o ≡ Ok tt) × (x ≡ Ok tt)
 first_ok (Ok u) x h = (refl, h)
-first_ok (Err f) x h = absurd (let z : ◌≡◌ {A = ℕ} 0 1 = cc in omega arith)
+first_ok (Err f) x h = cc
 
 still_all : (v : View) (a w : ℕ) (ps : List CellWord) → probe_all v ps ≡ Ok tt → probe_all (put_into Memory v a w) ps ≡ Ok tt
 still_all v a w [] h = refl
@@ -74,7 +74,7 @@ still_all v a w (p ∷ ps) h =
 
 written_ok : (v : View) (a w : ℕ) (o : Result ℕ Fault) → probed o ≡ Ok tt → put_if o Memory v a w ≡ put_into Memory v a w
 written_ok v a w (Ok x) h = refl
-written_ok v a w (Err f) h = absurd (let z : ◌≡◌ {A = ℕ} 0 1 = cc in omega arith)
+written_ok v a w (Err f) h = cc
 
 -- where every probe is done, every write is
 pub writes_put : (v : View) (ps : List CellWord) → probe_all v ps ≡ Ok tt → write_all v ps ≡ put_all v ps
@@ -86,7 +86,7 @@ writes_put v (p ∷ ps) h =
 
 answer_ok : (p : Places) (o : Result Unit Fault) → Ok tt ≡ answer p o → o ≡ Ok tt
 answer_ok p (Ok u) h = refl
-answer_ok p (Err f) h = absurd (let z : ◌≡◌ {A = ℕ} 0 1 = cc in omega arith)
+answer_ok p (Err f) h = cc
 
 -- a tape that is accepted and whose addresses are all probed is put into the memory
 pub load_done : (p : Places) (v w : View) (tape : List ℕ) → Ok tt ≡ checked tape → Ok tt ≡ answer p (probe_all v (puts tape)) → w ≡ write_all v (puts tape) → loaded p v tape ≡ Ok w

@@ -9,7 +9,7 @@ loop-done-preserved g c =
     let j = c.args.journal.now in
     let d = snapshot l.self (g.B.Bus.view l.bus) j in
     let b = snapshot c.retreat.new.self (g.B.Bus.view c.retreat.new.bus) j in
-    let e = c.in-Ok.ensures in
+    let e = c.in_default-retreat.ensures in
     let z : 0 < c.args.count = omega arith in
     let u : c.retreat.new.self.journal.used ≡ l.self.journal.used - 1 = one_less _ _ d b _ _ _ _ l.invariant.1 c.loop-done-test.true l.invariant.2 (l.invariant.3 z) c.in-Some.ensures l.invariant.0 e.after e.answer in (
       one_back _ _ d b _ _ _ _ l.invariant.1 c.loop-done-test.true l.invariant.2 (l.invariant.3 z) c.in-Some.ensures l.invariant.0 e.after e.answer,

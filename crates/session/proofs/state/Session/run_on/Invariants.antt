@@ -11,6 +11,3 @@ invariant-loop-done g l =
     × (g.B.Bus.places l.bus ≡ g.B.Bus.places l.initial.bus)
     × (l.self.count + (l.count - l.done) ≤ 4000000000)
     × (l.done ≤ l.count)
-
-abbrev pub decreases-loop-done : goal.decreases-loop-done
-decreases-loop-done g l = l.count - l.done
