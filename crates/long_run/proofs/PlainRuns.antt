@@ -66,17 +66,17 @@ module _ {P : Type 0} (r : Rules P) where
     tally_mark : (n k : ℕ) (v : State P) (s : Plain P) → s.depth < j → Tally n (k + 1) (push v s) (plain_run r j n (k + 1) (push v s)) → (m : Mark) → Tally (suc n) k s (marked j n k v s m)
     tally_mark n k v s h t mark.Ready = tally_more n k v s _ h t
     tally_mark n k v s h t mark.AtBreak =
-        record { states = omega arith; depth = omega arith; within = λ g. omega arith; all = λ e. absurd (let z : ◌≡◌ {A = ℕ} 0 1 = cc in omega arith) }
+        record { states = omega arith; depth = omega arith; within = λ g. omega arith; all = λ e. cc }
     tally_mark n k v s h t mark.Halted =
-        record { states = omega arith; depth = omega arith; within = λ g. omega arith; all = λ e. absurd (let z : ◌≡◌ {A = ℕ} 0 1 = cc in omega arith) }
+        record { states = omega arith; depth = omega arith; within = λ g. omega arith; all = λ e. cc }
 
     tally_held : (n k : ℕ) (s : Plain P) (e : Ending) → (e ≡ counted → ⊥) → Tally n k s (plain_ran s k e)
     tally_held n k s e h = record { states = refl; depth = refl; within = λ g. g; all = λ q. absurd (h q) }
 
     tally_move : (n k : ℕ) (s : Plain P) → ((v : State P) → Tally n (k + 1) (push v s) (plain_run r j n (k + 1) (push v s))) → (h b : Bool) → ltb s.depth j ≡ b → (o : Result (State P) Fault) → Tally (suc n) k s (moved j n k s (tested h b o))
-    tally_move n k s more true b e o = tally_held (suc n) k s halted (λ q. absurd (let z : ◌≡◌ {A = ℕ} 0 1 = cc in omega arith))
-    tally_move n k s more false false e o = tally_held (suc n) k s full (λ q. absurd (let z : ◌≡◌ {A = ℕ} 0 1 = cc in omega arith))
-    tally_move n k s more false true e (Err f) = tally_held (suc n) k s (refused f) (λ q. absurd (let z : ◌≡◌ {A = ℕ} 0 1 = cc in omega arith))
+    tally_move n k s more true b e o = tally_held (suc n) k s halted (λ q. cc)
+    tally_move n k s more false false e o = tally_held (suc n) k s full (λ q. cc)
+    tally_move n k s more false true e (Err f) = tally_held (suc n) k s (refused f) (λ q. cc)
     tally_move n k s more false true e (Ok v) = tally_mark n k v s (ltb-true s.depth j e) (more v) (r.mark v.processor)
 
     pub tally : (n k : ℕ) (s : Plain P) → Tally n k s (plain_run r j n k s)

@@ -25,7 +25,7 @@ last_none {X} u [] h k e = omega arith
 last_none {X} u (x ∷ xs) h k e =
     let s : u - 1 < length (x ∷ xs) = omega arith in
     let n : None ≡ Some (get_or (x ∷ xs) (u - 1) x) = e ∙ (last_is u (x ∷ xs) h k ∙ slice_get-get_or (x ∷ xs) (u - 1) x s) in
-    let z : ◌≡◌ {A = ℕ} 0 1 = cc in omega arith
+    cc
 
 last_entry : {X : Type 0} (u : ℕ) (xs : List X) (x : X) → 0 < u → u ≤ length xs → Some x ≡ last_record u xs → x ≡ get_or xs (u - 1) x
 last_entry {X} u xs x h k e =

@@ -1,4 +1,3 @@
-mod Refusing
 mod Undoing
 mod Simulates
 mod LogLaws

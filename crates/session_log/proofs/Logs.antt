@@ -40,7 +40,7 @@ module _ {P : Type 0} (r : Rules P) (w : State P) (j : ℕ) where
   by_test : (d : Snapshot P) (past : List (State P)) → Tied r w j d past → (a b : Bool) (f : Cause) (x : Gone P) (y : PlainServed P) → b ≡ false → (a ≡ false → CallSim (served_back (Ok x) d) y)
       → CallSim (served_back (cond (a || b) (Err (rule f)) (Ok x)) d) (cond a (replied (plain_of d past) (Err (rule f))) y)
   by_test d past i true b f x y h o = (past, refl, i)
-  by_test d past i false true f x y h o = absurd (let z : ◌≡◌ {A = ℕ} 0 1 = cc in omega arith)
+  by_test d past i false true f x y h o = cc
   by_test d past i false false f x y h o = o refl
 
   pub sim_call : (c : Call) (d : Snapshot P) (past : List (State P)) → Tied r w j d past → CallSim (serves r c d) (plain_call r j c (plain_of d past))

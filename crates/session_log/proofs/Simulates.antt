@@ -113,7 +113,7 @@ module _ {P : Type 0} (r : Rules P) (w : State P) (j : ℕ) where
       )
 
   sim_took : (n : ℕ) (e : Entry P) (es : List (Entry P)) (k : ℕ) (d : Snapshot P) (v : State P) (past : List (State P)) → e ∷ es ≡ newest d.used d.slots → suc n ≤ d.used → Tied r w j d (v ∷ past) → Undo es v past → ((b : Snapshot P) → es ≡ newest b.used b.slots → n ≤ b.used → Tied r w j b past → Undo es b.state past → BackSim (takes (take n es) (k + 1) b) (k + 1 + n) (drops n (plain_of b past))) → (x : Result (Moved P) Fault) → state_of x ≡ Ok v → BackSim (took (take n es) k d x) (k + suc n) (drops n (record { last = v; past = past; depth = d.used - 1 }))
-  sim_took n e es k d v past q h i o more (Err f) z = absurd (let z : ◌≡◌ {A = ℕ} 0 1 = cc in omega arith)
+  sim_took n e es k d v past q h i o more (Err f) z = cc
   sim_took n e es k d v past q h i o more (Ok m) z =
       let f : m.state ≡ v = cc in
       let a = tied_undone d e es m v past q (omega arith) f i o in

@@ -74,11 +74,11 @@ stands_fresh r w slots = record { last = refl; kept = refl; depth = refl; lent =
 
 probes_is : (p : Places) (v : View) (ps : List CellWord) (o : Result Unit Fault) (x : View) → probes_told p v ps o ≡ Ok x → x ≡ put_all v ps
 probes_is p v ps (Ok u) x e = cc
-probes_is p v ps (Err f) x e = absurd (let z : ◌≡◌ {A = ℕ} 0 1 = cc in omega arith)
+probes_is p v ps (Err f) x e = cc
 
 tape_is : (p : Places) (v : View) (tape : List ℕ) (o : Result Unit Refusal) (x : View) → tape_told p v tape o ≡ Ok x → x ≡ put_all v (puts tape)
 tape_is p v tape (Ok u) x e = probes_is p v (puts tape) (probe_all v (puts tape)) x e
-tape_is p v tape (Err f) x e = absurd (let z : ◌≡◌ {A = ℕ} 0 1 = cc in omega arith)
+tape_is p v tape (Err f) x e = cc
 
 module _ {P : Type 0} (r : Rules P) (stack : ℕ) (v : View) (tape : List ℕ) where
   -- what an opening that was accepted leaves
@@ -87,7 +87,7 @@ module _ {P : Type 0} (r : Rules P) (stack : ℕ) (v : View) (tape : List ℕ) w
 
   opened_case : (o : Own P) (v' : View) (x : Result View Refusal) → ((y : View) → x ≡ Ok y → y ≡ put_all v (puts tape)) → Ok o ≡ opened_own r stack x → v' ≡ view_after x v → Opened o v' x
   opened_case o v' (Ok y) is e f = (refl, cc, f ∙ is y refl)
-  opened_case o v' (Err y) is e f = absurd (let z : ◌≡◌ {A = ℕ} 0 1 = cc in omega arith)
+  opened_case o v' (Err y) is e f = cc
 
   pub opened_is : (p : Places) (o : Own P) (v' : View) → Ok o ≡ opened_own r stack (loaded p v tape) → v' ≡ view_after (loaded p v tape) v → Opened o v' (loaded p v tape)
   opened_is p o v' e f = opened_case o v' (loaded p v tape) (tape_is p v tape (checked tape)) e f
@@ -104,8 +104,8 @@ module _ {P : Type 0} (r : Rules P) (stack : ℕ) (v : View) (tape : List ℕ) w
 
   opens_by : (x : Result (Session P) Refusal) (v' : View) (slots : List (Entry P)) (y : Result View Refusal) → ((z : View) → y ≡ Ok z → z ≡ put_all v (puts tape)) → own_answer x ≡ opened_own r stack y → v' ≡ view_after y v → Opens x v' slots y
   opens_by (Ok s) v' slots (Ok z) is e f = let o : own s ≡ fresh_own r stack = cc in (refl, opened_snapshot s v' slots o (f ∙ is z refl))
-  opens_by (Ok s) v' slots (Err z) is e f = absurd (let z : ◌≡◌ {A = ℕ} 0 1 = cc in omega arith)
-  opens_by (Err s) v' slots (Ok z) is e f = absurd (let z : ◌≡◌ {A = ℕ} 0 1 = cc in omega arith)
+  opens_by (Ok s) v' slots (Err z) is e f = cc
+  opens_by (Err s) v' slots (Ok z) is e f = cc
   opens_by (Err s) v' slots (Err z) is e f = (cc, f)
 
   pub opens : (p : Places) (x : Result (Session P) Refusal) (v' : View) (slots : List (Entry P)) → own_answer x ≡ opened_own r stack (loaded p v tape) → v' ≡ view_after (loaded p v tape) v → Opens x v' slots (loaded p v tape)

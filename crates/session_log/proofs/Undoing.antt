@@ -1,4 +1,4 @@
-use Rattle.std.proofs.Common.{◌≡◌, ℕ, Bool, true, false, cond, eqb, Some, None, Ok, Err, Option, Result, sym, refl, ap, ◌∙◌, subst, arith}
+use Rattle.std.proofs.Common.{◌≡◌, ℕ, Bool, true, false, cond, eqb, Some, None, Ok, Err, Option, Result, sym, refl, ap, ◌∙◌, subst}
 use mathlib.Core.Path.{fun_ext}
 use Rattle.std.proofs.lemmas.Bool.{eq-eqb, eqb-true}
 use Rattle.processor.specs.declared.Side.{Side}
@@ -25,10 +25,10 @@ put_same m a w = ap (λ (c : Bool). cond c (Some (free w)) (m a)) (eq-eqb a a re
 
 granted_ok : (b : Bool) (w : ℕ) (s : Side) (a x : ℕ) → granted b w s a ≡ Ok x → (b ≡ true) × (w ≡ x)
 granted_ok true w s a x h = (refl, cc)
-granted_ok false w s a x h = absurd (let z : ◌≡◌ {A = ℕ} 0 1 = cc in omega arith)
+granted_ok false w s a x h = cc
 
 yielded_ok : (o : Option Cell) (s : Side) (a x : ℕ) → yielded o s a ≡ Ok x → o ≡ Some (free x)
-yielded_ok None s a x h = absurd (let z : ◌≡◌ {A = ℕ} 0 1 = cc in omega arith)
+yielded_ok None s a x h = cc
 yielded_ok (Some c) s a x h =
     let q = granted_ok c.unlocked c.word s a x h in
     let f : ℕ → Option Cell = λ w. Some (record { word = w; unlocked = c.unlocked }) in

@@ -1,6 +1,6 @@
 // Two sessions on one page.
 ghost use Rattle.std.specs.Prelude.{◌≡◌};
-ghost use Rattle.session_log.specs.Alike.{stores, stores_of, left, AlikeAgree};
+ghost use Rattle.session_log.specs.Alike.{stores_of, left, AlikeAgree};
 
 use crate::line::Line;
 use crate::log::replay;
@@ -11,8 +11,9 @@ use session::entry::Entry;
 use session::state::Session;
 use stores::{ReadStore, WriteStore};
 
-// One log after the other.
-fn replay_each<
+// Two logs on one tape with one stack start, over stores of any two makes and journals of any two lengths. Where memories, screens and
+// keys are alike, the two agree after any two lines at which as many instructions are done.
+pub fn replay_both<
     P: Processor,
     M: WriteStore,
     S: WriteStore,
@@ -41,37 +42,4 @@ fn replay_each<
     let first = replay(one, journal, tape, stack, lines);
     let second = replay(two, other, tape, stack, rows);
     (first, second)
-}
-
-// Two logs on one tape with one stack start, over stores of any two makes and journals of any two lengths. Where memories, screens and
-// keys are alike, the two agree after any two lines at which as many instructions are done.
-pub fn replay_both<
-    P: Processor,
-    M: WriteStore,
-    S: WriteStore,
-    K: ReadStore,
-    N: WriteStore,
-    T: WriteStore,
-    L: ReadStore,
->(
-    one: &mut Devices<M, S, K>,
-    two: &mut Devices<N, T, L>,
-    journal: &mut [Entry<P>],
-    other: &mut [Entry<P>],
-    tape: &[u32],
-    stack: u16,
-    lines: &mut [Line<P>],
-    rows: &mut [Line<P>],
-) -> (Result<Session<P>, Refusal>, Result<Session<P>, Refusal>)
-    ensures agreed { AlikeAgree P.Processor.rules tape.now stack
-        (stores (M.ReadStore.shown one.old.memory) (M.WriteStore.unlocked one.old.memory)
-        (S.ReadStore.shown one.old.screen) (S.WriteStore.unlocked one.old.screen) (K.ReadStore.shown one.old.keys))
-        (stores (N.ReadStore.shown two.old.memory) (N.WriteStore.unlocked two.old.memory)
-        (T.ReadStore.shown two.old.screen) (T.WriteStore.unlocked two.old.screen) (L.ReadStore.shown two.old.keys))
-        (left result.0 (stores (M.ReadStore.shown one.new.memory) (M.WriteStore.unlocked one.new.memory)
-        (S.ReadStore.shown one.new.screen) (S.WriteStore.unlocked one.new.screen) (K.ReadStore.shown one.new.keys)) journal.new lines.new)
-        (left result.1 (stores (N.ReadStore.shown two.new.memory) (N.WriteStore.unlocked two.new.memory)
-        (T.ReadStore.shown two.new.screen) (T.WriteStore.unlocked two.new.screen) (L.ReadStore.shown two.new.keys)) other.new rows.new) }
-{
-    replay_each(one, two, journal, other, tape, stack, lines, rows)
 }

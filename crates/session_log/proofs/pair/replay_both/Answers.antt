@@ -3,7 +3,7 @@ use Rattle.processor.specs.Views.{View, places}
 use Rattle.session_log.specs.Logs.{opening}
 use Rattle.session_log.specs.Alike.{stores_of, seen, left}
 use Rattle.session_log.proofs.Agreeing.{agreed, seen_alike}
-use Rattle.session_log.proofs.pair.replay_each.Goals as goal
+use Rattle.session_log.proofs.pair.replay_both.Goals as goal
 
 pub returns : goal.returns
 returns g c =
