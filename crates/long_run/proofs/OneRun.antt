@@ -93,6 +93,14 @@ module _ {P : Type 0} (r : Rules P) (p : Places) (w : State P) (j m : ℕ) (smal
       abbrev Rounds : ℕ → Type 0
       Rounds n = (t c : ℕ) (d : Snapshot P) (s : Plain P) → Stands r w j d s → s.depth ≡ 0 → count s ≡ c → t ≡ n * m → c + t ≤ l → Whole (rounds r p m n d) (plain_run r l t c (deeper r c s))
 
+      -- where the first round ends the rounds
+      ended_first : (n t c : ℕ) (d : Snapshot P) (s : Plain P) → Stands r w j d s → s.depth ≡ 0 → count s ≡ c → t ≡ suc n * m → c + t ≤ l → (e : Ending) → (plain_run r j m 0 s).ending ≡ e → goes_on (told_stop p e) ≡ false
+          → by_ending (t - m) (deeper_ran r c (plain_run r j m 0 s)) e ≡ deeper_ran r c (plain_run r j m 0 s) → Whole (rounds r p m (suc n) d) (plain_run r l t c (deeper r c s))
+      ended_first n t c d s i z k q v e a g b =
+          let f : suc n * m ≡ n * m + m = suc-mul n m in
+          let u = split t c s enough z (omega (arith, q, f)) v in
+          last_round (suc n) t c d s i k (omega (arith, q, f)) (omega arith) e a g (u ∙ (ap (by_ending (t - m) (deeper_ran r c (plain_run r j m 0 s))) a ∙ b))
+
       by_first : (n t c : ℕ) (d : Snapshot P) (s : Plain P) → Stands r w j d s → s.depth ≡ 0 → count s ≡ c → t ≡ suc n * m → c + t ≤ l → Rounds n → (e : Ending) → (plain_run r j m 0 s).ending ≡ e → Whole (rounds r p m (suc n) d) (plain_run r l t c (deeper r c s))
       by_first n t c d s i z k q v rest counted e =
           let x = plain_run r j m 0 s in
@@ -101,22 +109,10 @@ module _ {P : Type 0} (r : Rules P) (p : Places) (w : State P) (j m : ℕ) (smal
           let u = split t c s enough z (omega (arith, q, f)) v in
           let o = round_stands d s i (omega (arith, q, f)) in
           next_round n t c d s i z k (omega (arith, q, f)) e u (rest (t - m) (x.done + c) (one_round r p m d).after (emptied x.plain) o.1 refl (omega (arith, t'.states)) (omega (arith, q, f)) (omega (arith, q, f, t'.all e)))
-      by_first n t c d s i z k q v rest halted e =
-          let f : suc n * m ≡ n * m + m = suc-mul n m in
-          let u = split t c s enough z (omega (arith, q, f)) v in
-          last_round (suc n) t c d s i k (omega (arith, q, f)) (omega arith) halted e refl (u ∙ ap (by_ending (t - m) (deeper_ran r c (plain_run r j m 0 s))) e)
-      by_first n t c d s i z k q v rest at_break e =
-          let f : suc n * m ≡ n * m + m = suc-mul n m in
-          let u = split t c s enough z (omega (arith, q, f)) v in
-          last_round (suc n) t c d s i k (omega (arith, q, f)) (omega arith) at_break e refl (u ∙ ap (by_ending (t - m) (deeper_ran r c (plain_run r j m 0 s))) e)
-      by_first n t c d s i z k q v rest full e =
-          let f : suc n * m ≡ n * m + m = suc-mul n m in
-          let u = split t c s enough z (omega (arith, q, f)) v in
-          last_round (suc n) t c d s i k (omega (arith, q, f)) (omega arith) full e refl (u ∙ ap (by_ending (t - m) (deeper_ran r c (plain_run r j m 0 s))) e)
-      by_first n t c d s i z k q v rest (refused g) e =
-          let f : suc n * m ≡ n * m + m = suc-mul n m in
-          let u = split t c s enough z (omega (arith, q, f)) v in
-          last_round (suc n) t c d s i k (omega (arith, q, f)) (omega arith) (refused g) e refl (u ∙ ap (by_ending (t - m) (deeper_ran r c (plain_run r j m 0 s))) e)
+      by_first n t c d s i z k q v rest halted e = ended_first n t c d s i z k q v halted e refl refl
+      by_first n t c d s i z k q v rest at_break e = ended_first n t c d s i z k q v at_break e refl refl
+      by_first n t c d s i z k q v rest full e = ended_first n t c d s i z k q v full e refl refl
+      by_first n t c d s i z k q v rest (refused g) e = ended_first n t c d s i z k q v (refused g) e refl refl
 
       pub rounds_run : (n : ℕ) → Rounds n
       rounds_run zero t c d s i z k q v =

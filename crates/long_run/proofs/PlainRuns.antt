@@ -6,35 +6,21 @@ use Rattle.processor.specs.Views.{Fault}
 use Rattle.processor.specs.Rules.{Rules, State, instruction}
 use Rattle.session.specs.Runs.{Ending, counted, halted, at_break, full, refused, is_halted}
 use Rattle.session_log.specs.Plain.{Plain, count, push, Move, onto, held, by_instruction, PlainRan, plain_ran, plain_run}
+use Rattle.session_log.proofs.Turns.{marked, moved, tested}
 
 module _ {P : Type 0} (r : Rules P) where
-  -- a plain run by the mark that its first instruction leaves, and by what comes before that instruction
-  abbrev marked : ℕ → ℕ → ℕ → State P → Plain P → Mark → PlainRan P
-  marked j n k v s m =
-      elim m [
-        | mark.Ready ↦ plain_run r j n (k + 1) (push v s)
-        | mark.AtBreak ↦ plain_ran (push v s) (k + 1) at_break
-        | mark.Halted ↦ plain_ran (push v s) (k + 1) halted
-      ]
-
-  abbrev moved : ℕ → ℕ → ℕ → Plain P → Move P → PlainRan P
-  moved j n k s x = elim x [ held e ↦ plain_ran s k e | onto v ↦ marked j n k v s (r.mark v.processor) ]
-
-  abbrev tested : Bool → Bool → Result (State P) Fault → Move P
-  tested h b o = cond h (held halted) (cond b (by_instruction o) (held full))
-
   -- a run that did its count goes on, any other has ended
   abbrev pub then_on : ℕ → ℕ → PlainRan P → PlainRan P
   then_on j n x =
       elim x.ending [ counted ↦ plain_run r j n x.done x.plain | halted ↦ x | at_break ↦ x | full ↦ x | refused f ↦ x ]
 
   module _ (j : ℕ) where
-    more_mark : (a n m k : ℕ) (v : State P) (s : Plain P) → plain_run r j m (k + 1) (push v s) ≡ then_on j n (plain_run r j a (k + 1) (push v s)) → (x : Mark) → marked j m k v s x ≡ then_on j n (marked j a k v s x)
+    more_mark : (a n m k : ℕ) (v : State P) (s : Plain P) → plain_run r j m (k + 1) (push v s) ≡ then_on j n (plain_run r j a (k + 1) (push v s)) → (x : Mark) → marked r j m k v s x ≡ then_on j n (marked r j a k v s x)
     more_mark a n m k v s more mark.Ready = more
     more_mark a n m k v s more mark.AtBreak = refl
     more_mark a n m k v s more mark.Halted = refl
 
-    more_move : (a n m k : ℕ) (s : Plain P) → ((v : State P) → plain_run r j m (k + 1) (push v s) ≡ then_on j n (plain_run r j a (k + 1) (push v s))) → (h b : Bool) (o : Result (State P) Fault) → moved j m k s (tested h b o) ≡ then_on j n (moved j a k s (tested h b o))
+    more_move : (a n m k : ℕ) (s : Plain P) → ((v : State P) → plain_run r j m (k + 1) (push v s) ≡ then_on j n (plain_run r j a (k + 1) (push v s))) → (h b : Bool) (o : Result (State P) Fault) → moved r j m k s (tested h b o) ≡ then_on j n (moved r j a k s (tested h b o))
     more_move a n m k s more true b o = refl
     more_move a n m k s more false false o = refl
     more_move a n m k s more false true (Err f) = refl
@@ -63,7 +49,7 @@ module _ {P : Type 0} (r : Rules P) where
           all = λ e. let y = t.all e in omega arith;
         }
 
-    tally_mark : (n k : ℕ) (v : State P) (s : Plain P) → s.depth < j → Tally n (k + 1) (push v s) (plain_run r j n (k + 1) (push v s)) → (m : Mark) → Tally (suc n) k s (marked j n k v s m)
+    tally_mark : (n k : ℕ) (v : State P) (s : Plain P) → s.depth < j → Tally n (k + 1) (push v s) (plain_run r j n (k + 1) (push v s)) → (m : Mark) → Tally (suc n) k s (marked r j n k v s m)
     tally_mark n k v s h t mark.Ready = tally_more n k v s _ h t
     tally_mark n k v s h t mark.AtBreak =
         record { states = omega arith; depth = omega arith; within = λ g. omega arith; all = λ e. cc }
@@ -73,7 +59,7 @@ module _ {P : Type 0} (r : Rules P) where
     tally_held : (n k : ℕ) (s : Plain P) (e : Ending) → (e ≡ counted → ⊥) → Tally n k s (plain_ran s k e)
     tally_held n k s e h = record { states = refl; depth = refl; within = λ g. g; all = λ q. absurd (h q) }
 
-    tally_move : (n k : ℕ) (s : Plain P) → ((v : State P) → Tally n (k + 1) (push v s) (plain_run r j n (k + 1) (push v s))) → (h b : Bool) → ltb s.depth j ≡ b → (o : Result (State P) Fault) → Tally (suc n) k s (moved j n k s (tested h b o))
+    tally_move : (n k : ℕ) (s : Plain P) → ((v : State P) → Tally n (k + 1) (push v s) (plain_run r j n (k + 1) (push v s))) → (h b : Bool) → ltb s.depth j ≡ b → (o : Result (State P) Fault) → Tally (suc n) k s (moved r j n k s (tested h b o))
     tally_move n k s more true b e o = tally_held (suc n) k s halted (λ q. cc)
     tally_move n k s more false false e o = tally_held (suc n) k s full (λ q. cc)
     tally_move n k s more false true e (Err f) = tally_held (suc n) k s (refused f) (λ q. cc)
@@ -101,7 +87,7 @@ module _ {P : Type 0} (r : Rules P) where
         let G : ℕ → PlainRan P = λ i. plain_ran (deeper c (push v s)) i e in
         ap F (omega arith) ∙ ap G (omega arith)
 
-    deep_mark : (n k : ℕ) (v : State P) (s : Plain P) → Deep n (k + 1) (push v s) → (m : Mark) → marked l n (k + c) v (deeper c s) m ≡ deeper_ran c (marked j n k v s m)
+    deep_mark : (n k : ℕ) (v : State P) (s : Plain P) → Deep n (k + 1) (push v s) → (m : Mark) → marked r l n (k + c) v (deeper c s) m ≡ deeper_ran c (marked r j n k v s m)
     deep_mark n k v s more mark.Ready =
         let F : ℕ → PlainRan P = λ d. plain_run r l n (k + c + 1) (record { last = v; past = s.last ∷ s.past; depth = d }) in
         let G : ℕ → PlainRan P = λ i. plain_run r l n i (deeper c (push v s)) in
@@ -109,7 +95,7 @@ module _ {P : Type 0} (r : Rules P) where
     deep_mark n k v s more mark.AtBreak = push_deeper k v s at_break
     deep_mark n k v s more mark.Halted = push_deeper k v s halted
 
-    deep_move : (n k : ℕ) (s : Plain P) → ((v : State P) → Deep n (k + 1) (push v s)) → (h : Bool) (o : Result (State P) Fault) → moved l n (k + c) (deeper c s) (tested h true o) ≡ deeper_ran c (moved j n k s (tested h true o))
+    deep_move : (n k : ℕ) (s : Plain P) → ((v : State P) → Deep n (k + 1) (push v s)) → (h : Bool) (o : Result (State P) Fault) → moved r l n (k + c) (deeper c s) (tested h true o) ≡ deeper_ran c (moved r j n k s (tested h true o))
     deep_move n k s more true o = refl
     deep_move n k s more false (Err f) = refl
     deep_move n k s more false (Ok v) = deep_mark n k v s (more v) (r.mark v.processor)
@@ -121,6 +107,6 @@ module _ {P : Type 0} (r : Rules P) where
         let o = instruction r s.last in
         let a : ltb s.depth j ≡ true = lt-ltb s.depth j (omega arith) in
         let b : ltb (s.depth + c) l ≡ true = lt-ltb (s.depth + c) l (omega arith) in
-        let F : Bool → PlainRan P = λ x. moved l n (k + c) (deeper c s) (tested h x o) in
-        let G : Bool → PlainRan P = λ x. deeper_ran c (moved j n k s (tested h x o)) in
+        let F : Bool → PlainRan P = λ x. moved r l n (k + c) (deeper c s) (tested h x o) in
+        let G : Bool → PlainRan P = λ x. deeper_ran c (moved r j n k s (tested h x o)) in
         ap F b ∙ (deep_move n k s (λ v. deep n (k + 1) (push v s) (omega arith) (omega arith)) h o ∙ ap G (sym a))

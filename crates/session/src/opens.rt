@@ -61,6 +61,7 @@ fn write_tape<B: Bus>(bus: &mut B, tape: &[u32])
 }
 
 // A tape whose addresses are all probed is put into the memory by writes; a call of this does nothing.
+#[tactic(auto, using(crate::proofs::OpenLaws::loads_write))]
 fn loading_writes<B: Bus>(bus: &B, tape: &[u32])
     ensures { loaded (B.Bus.places bus.now) (B.Bus.view bus.now) tape.now
         ≡ tape_written (B.Bus.places bus.now) (B.Bus.view bus.now) tape.now (checked tape.now) }

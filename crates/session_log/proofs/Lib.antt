@@ -1,4 +1,5 @@
 mod Undoing
+pub mod Turns
 mod Simulates
 mod LogLaws
 mod Logs

@@ -13,6 +13,7 @@ use Rattle.session.specs.Backs.{newest, undone, Gone, gone, takes}
 use Rattle.session.proofs.BackLaws.{newest_next, newest_set}
 use Rattle.session_log.specs.Plain.{Plain, push, drops, Move, onto, held, by_instruction, PlainRan, plain_ran, plain_run}
 use Rattle.session_log.specs.Stands.{Undo, Follow}
+use Rattle.session_log.proofs.Turns.{marked, moved, tested}
 use Rattle.session_log.proofs.Undoing.{entry_undoes}
 
 -- a session and the states before its own
@@ -51,24 +52,13 @@ module _ {P : Type 0} (r : Rules P) (w : State P) (j : ℕ) where
   abbrev run_by : ℕ → ℕ → Course → Snapshot P → Ended P
   run_by n k u b = elim u [ goes_on ↦ runs_on r n (k + 1) b | last e ↦ ended b (k + 1) e | none e ↦ ended b k e ]
 
-  abbrev plain_mark : ℕ → ℕ → State P → Plain P → Mark → PlainRan P
-  plain_mark n k v s m =
-      elim m [
-        | mark.Ready ↦ plain_run r j n (k + 1) (push v s)
-        | mark.AtBreak ↦ plain_ran (push v s) (k + 1) at_break
-        | mark.Halted ↦ plain_ran (push v s) (k + 1) halted
-      ]
-
-  abbrev plain_by : ℕ → ℕ → Plain P → Move P → PlainRan P
-  plain_by n k s m = elim m [ held e ↦ plain_ran s k e | onto v ↦ plain_mark n k v s (r.mark v.processor) ]
-
-  sim_mark : (n k : ℕ) (d : Snapshot P) (past : List (State P)) (m : Moved P) → Tied r w j (noted (Ok m) d) (d.state ∷ past) → ((b : Snapshot P) (vs : List (State P)) → Tied r w j b vs → RunSim (runs_on r n (k + 1) b) (plain_run r j n (k + 1) (plain_of b vs))) → (x : Mark) → RunSim (run_by n k (by_mark x) (noted (Ok m) d)) (plain_mark n k m.state (plain_of d past) x)
+  sim_mark : (n k : ℕ) (d : Snapshot P) (past : List (State P)) (m : Moved P) → Tied r w j (noted (Ok m) d) (d.state ∷ past) → ((b : Snapshot P) (vs : List (State P)) → Tied r w j b vs → RunSim (runs_on r n (k + 1) b) (plain_run r j n (k + 1) (plain_of b vs))) → (x : Mark) → RunSim (run_by n k (by_mark x) (noted (Ok m) d)) (marked r j n k m.state (plain_of d past) x)
   sim_mark n k d past m i more mark.Ready = more (noted (Ok m) d) (d.state ∷ past) i
   sim_mark n k d past m i more mark.AtBreak = (d.state ∷ past, refl, i)
   sim_mark n k d past m i more mark.Halted = (d.state ∷ past, refl, i)
 
   sim_turn : (n k : ℕ) (d : Snapshot P) (past : List (State P)) → Tied r w j d past → ((b : Snapshot P) (vs : List (State P)) → Tied r w j b vs → RunSim (runs_on r n (k + 1) b) (plain_run r j n (k + 1) (plain_of b vs))) → (h b : Bool) → ltb d.used j ≡ b → (x : Result (Moved P) Fault) → tried r d.state ≡ x
-      → RunSim (run_by n k (cond h (none halted) (cond b (by_step r x) (none full))) (cond h d (cond b (noted x d) d))) (plain_by n k (plain_of d past) (cond h (held halted) (cond b (by_instruction (state_of x)) (held full))))
+      → RunSim (run_by n k (cond h (none halted) (cond b (by_step r x) (none full))) (cond h d (cond b (noted x d) d))) (moved r j n k (plain_of d past) (tested h b (state_of x)))
   sim_turn n k d past i more true b e x o = (past, refl, i)
   sim_turn n k d past i more false false e x o = (past, refl, i)
   sim_turn n k d past i more false true e (Err f) o = (past, refl, i)
@@ -80,7 +70,7 @@ module _ {P : Type 0} (r : Rules P) (w : State P) (j : ℕ) where
   sim_run (suc n) k d past i =
       let h = is_halted (r.mark d.state.processor) in
       let x = tried r d.state in
-      let F : ℕ → Type 0 = λ m. RunSim (run_by n k (cond h (none halted) (cond (ltb d.used m) (by_step r x) (none full))) (cond h d (cond (ltb d.used m) (noted x d) d))) (plain_by n k (plain_of d past) (cond h (held halted) (cond (ltb d.used j) (by_instruction (state_of x)) (held full)))) in
+      let F : ℕ → Type 0 = λ m. RunSim (run_by n k (cond h (none halted) (cond (ltb d.used m) (by_step r x) (none full))) (cond h d (cond (ltb d.used m) (noted x d) d))) (moved r j n k (plain_of d past) (tested h (ltb d.used j) (state_of x))) in
       subst F (sym i.lent) (sim_turn n k d past i (λ b vs o. sim_run n (k + 1) b vs o) h (ltb d.used j) refl x refl)
 
   -- a back goes as the plain session's
