@@ -1,11 +1,11 @@
-use Rattle.std.proofs.Common.{◌≡◌, ℕ, zero, suc, ◌+◌, ◌<◌, ◌≤◌, Bool, true, false, cond, ltb, ◌∷◌, Ok, Err, Result, sym, refl, ap, ◌∙◌, arith}
+use Rattle.std.proofs.Common.{◌≡◌, ℕ, zero, suc, ◌+◌, ◌<◌, ◌≤◌, Bool, true, false, ltb, ◌∷◌, Ok, Err, Result, sym, refl, ap, ◌∙◌, arith}
 use Rattle.std.proofs.lemmas.Bool.{lt-ltb, ltb-true}
 use Rattle.processor.specs.declared.Mark.{Mark}
 use Rattle.processor.specs.declared.Mark.TheVariants as mark
 use Rattle.processor.specs.Views.{Fault}
 use Rattle.processor.specs.Rules.{Rules, State, instruction}
 use Rattle.session.specs.Runs.{Ending, counted, halted, at_break, full, refused, is_halted}
-use Rattle.session_log.specs.Plain.{Plain, count, push, Move, onto, held, by_instruction, PlainRan, plain_ran, plain_run}
+use Rattle.session_log.specs.Plain.{Plain, count, push, PlainRan, plain_ran, plain_run}
 use Rattle.session_log.proofs.Turns.{marked, moved, tested}
 
 module _ {P : Type 0} (r : Rules P) where

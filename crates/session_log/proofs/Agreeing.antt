@@ -15,8 +15,8 @@ use Rattle.session.specs.Opens.{probe_all, probes_told, tape_told, loaded, load_
 use Rattle.session_log.specs.declared.line.Line.{Line}
 use Rattle.session_log.specs.Plain.{fresh, after}
 use Rattle.session_log.specs.Kept.{depth_after, PageLine, LogKept}
-use Rattle.session_log.specs.Logs.{Logged, opening_answer}
-use Rattle.session_log.specs.Alike.{AlikeCells, AlikeKeys, Alike, Stores, seen, SameState, Agree, Left, Agreed}
+use Rattle.session_log.specs.Logs.{Logged, opening, opening_answer}
+use Rattle.session_log.specs.Alike.{AlikeCells, AlikeKeys, Alike, Stores, seen, SameState, Agree, Left, LeftBy, Agreed, AlikeAgree}
 
 cond_same : {X : Type 0} (b : Bool) (x y z : X) → (b ≡ true → x ≡ y) → cond b x z ≡ cond b y z
 cond_same true x y z h = h refl
@@ -93,11 +93,15 @@ module _ {P : Type 0} (r : Rules P) where
     by_answers (Err s) (Ok t) e f g = e
     by_answers (Err s) (Err t) e f g = e
 
-    pub agreed : (a b : Result (Session P) Refusal) → opening_answer a ≡ load_answer (loaded p v tape) → opening_answer b ≡ load_answer (loaded q v' tape) → Log p w j ls x a → Log q u k ms y b → Agreed r w u x y a b
+    agreed : (a b : Result (Session P) Refusal) → opening_answer a ≡ load_answer (loaded p v tape) → opening_answer b ≡ load_answer (loaded q v' tape) → Log p w j ls x a → Log q u k ms y b → Agreed r w u x y a b
     agreed a b e f g h =
         let n : load_answer (loaded q v tape) ≡ opening_answer b = ap (λ (z : View). load_answer (loaded q z tape)) same ∙ sym f in
         let s : SameAnswer (opening_answer a) (load_answer (loaded q v tape)) = subst (λ (z : Result Unit Refusal). SameAnswer z (load_answer (loaded q v tape))) (sym e) (tape_same p q v tape (checked tape)) in
         by_answers a b (subst (λ (z : Result Unit Refusal). SameAnswer (opening_answer a) z) n s) g h
 
-pub seen_alike : (x y : Stores) → Alike x y → seen x ≡ seen y
-seen_alike x y h = seen_same x y h
+-- two logs agree where their stores are alike
+pub logs_agree : {P : Type 0} (r : Rules P) (tape : List ℕ) (stack j k : ℕ) (a b : Stores) (ls ms : List (Line P)) (x y : Left P) → LeftBy r tape stack j a ls x → LeftBy r tape stack k b ms y → AlikeAgree r tape stack a b x y
+logs_agree r tape stack j k a b ls ms x y f g h =
+    let s = seen_same a b h in
+    agreed r f.places g.places (seen a) (seen b) tape (opening r stack (seen a) tape) (opening r stack (seen b) tape) j k ls ms x y s (ap (λ (v : View). opening r stack v tape) s)
+    x.answer y.answer f.opened g.opened f.log g.log

@@ -5,7 +5,7 @@ use Rattle.processor.specs.declared.Mark.TheVariants as mark
 use Rattle.processor.specs.Views.{Fault}
 use Rattle.processor.specs.Rules.{Rules, State, instruction}
 use Rattle.session.specs.Runs.{Ending, counted, halted, at_break, full, refused, is_halted}
-use Rattle.session_log.specs.Plain.{Plain, count, push, Move, onto, held, by_instruction, PlainRan, plain_ran, plain_run, after, then_instruction}
+use Rattle.session_log.specs.Plain.{Plain, count, push, PlainRan, plain_ran, plain_run, after, then_instruction}
 use Rattle.session_log.specs.Stands.{Follow}
 use Rattle.session_log.specs.Kept.{by_next, ending, Met, Ends, RunKept, BackKept, ForgetKept, LookKept, CallKept, depth_after, PageLine, LogKept}
 use Rattle.session_log.specs.Kept as kept

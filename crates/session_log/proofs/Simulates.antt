@@ -8,10 +8,10 @@ use Rattle.processor.specs.Rules.{Rules, State, Moved, state_of}
 use Rattle.session.specs.declared.entry.Entry.{Entry}
 use Rattle.session.specs.Snapshots.{Snapshot}
 use Rattle.session.specs.Trials.{tried, restored}
-use Rattle.session.specs.Runs.{halted, at_break, full, is_halted, Course, goes_on, last, none, by_mark, by_step, noted, Ended, ended, runs_on}
+use Rattle.session.specs.Runs.{halted, full, is_halted, Course, goes_on, last, none, by_mark, by_step, noted, Ended, ended, runs_on}
 use Rattle.session.specs.Backs.{newest, undone, Gone, gone, takes}
 use Rattle.session.proofs.BackLaws.{newest_next, newest_set}
-use Rattle.session_log.specs.Plain.{Plain, push, drops, Move, onto, held, by_instruction, PlainRan, plain_ran, plain_run}
+use Rattle.session_log.specs.Plain.{Plain, drops, PlainRan, plain_ran, plain_run}
 use Rattle.session_log.specs.Stands.{Undo, Follow}
 use Rattle.session_log.proofs.Turns.{marked, moved, tested}
 use Rattle.session_log.proofs.Undoing.{entry_undoes}

@@ -1,6 +1,6 @@
 // Two sessions on one page.
-ghost use Rattle.std.specs.Prelude.{◌≡◌};
-ghost use Rattle.session_log.specs.Alike.{stores_of, left, AlikeAgree};
+ghost use Rattle.std.specs.Prelude.{length};
+ghost use Rattle.session_log.specs.Alike.{stores_of, left, LeftBy, AlikeAgree};
 
 use crate::line::Line;
 use crate::log::replay;
@@ -10,6 +10,22 @@ use refusal::Refusal;
 use session::entry::Entry;
 use session::state::Session;
 use stores::{ReadStore, WriteStore};
+
+// A log on devices of any makes.
+fn replay_on<P: Processor, M: WriteStore, S: WriteStore, K: ReadStore>(
+    devices: &mut Devices<M, S, K>,
+    journal: &mut [Entry<P>],
+    tape: &[u32],
+    stack: u16,
+    lines: &mut [Line<P>],
+) -> Result<Session<P>, Refusal>
+    ensures { LeftBy P.Processor.rules tape.now stack (length journal.old)
+        (stores_of M.ReadStore.shown M.WriteStore.unlocked S.ReadStore.shown S.WriteStore.unlocked K.ReadStore.shown devices.old) lines.old
+        (left result (stores_of M.ReadStore.shown M.WriteStore.unlocked S.ReadStore.shown S.WriteStore.unlocked K.ReadStore.shown devices.new)
+        journal.new lines.new) }
+{
+    replay(devices, journal, tape, stack, lines)
+}
 
 // Two logs on one tape with one stack start, over stores of any two makes and journals of any two lengths. Where memories, screens and
 // keys are alike, the two agree after any two lines at which as many instructions are done.
@@ -39,7 +55,7 @@ pub fn replay_both<
         (left result.1 (stores_of N.ReadStore.shown N.WriteStore.unlocked T.ReadStore.shown T.WriteStore.unlocked L.ReadStore.shown two.new)
         other.new rows.new) }
 {
-    let first = replay(one, journal, tape, stack, lines);
-    let second = replay(two, other, tape, stack, rows);
+    let first = replay_on(one, journal, tape, stack, lines);
+    let second = replay_on(two, other, tape, stack, rows);
     (first, second)
 }
