@@ -6,7 +6,7 @@ ghost use Rattle.session_log.specs.Logs.{opening, opened};
 ghost use Rattle.long_run.specs.LongRuns.{long_run, reported, report_answer, view_then, RanOut};
 ghost use Rattle.session.specs.Snapshots.{snapshot};
 ghost use Rattle.icmc.specs.Steps.{machine_rules};
-ghost use Rattle.long_run.specs.Rounds.{one_round, rounds};
+ghost use Rattle.long_run.specs.Rounds.{stop_of, one_round, rounds};
 
 use crate::report::Report;
 use icmc::machine::Machine;
@@ -15,10 +15,22 @@ use refusal::Refusal;
 use session::answers::Stop;
 use session::entry::Entry;
 use session::state::Session;
+use session_log::line::{Answer, Call};
 use session_log::log::replay;
+use session_log::serve::serve;
+
+// The stop that a run answers.
+fn stop_of(answer: Result<Answer, Refusal>) -> Stop
+    ensures { result ≡ stop_of answer }
+{
+    match answer {
+        Ok(Answer::Ran(ran)) => ran.stop,
+        Ok(_) => Stop::CountReached,
+        Err(refusal) => Stop::from(refusal),
+    }
+}
 
 // One round: 1,000 instructions, then all journal slots freed.
-#[tactic(auto, unfolding(session_log::specs::Serving::by_run))]
 fn round<B: Bus>(
     session: &mut Session<Machine>,
     bus: &mut B,
@@ -31,12 +43,9 @@ fn round<B: Bus>(
         (snapshot session.old (B.Bus.view bus.old) journal.old)).after }
     ensures places { B.Bus.places bus.new ≡ B.Bus.places bus.old }
 {
-    let ran = session.run(bus, journal, 1000);
-    session.forget();
-    match ran {
-        Ok(ran) => ran.stop,
-        Err(refusal) => Stop::Refused(refusal),
-    }
+    let answer = serve(session, bus, journal, Call::Run(1000));
+    let _ = serve(session, bus, journal, Call::Forget);
+    stop_of(answer)
 }
 
 // At most 1,000 rounds, as long as each does its 1,000.

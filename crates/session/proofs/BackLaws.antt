@@ -1,6 +1,7 @@
 use Rattle.std.proofs.Common.{◌≡◌, ℕ, suc, ◌+◌, ◌-◌, ◌<◌, ◌≤◌, Bool, true, cond, ltb, leb, List, [], ◌∷◌, reverse, length, get_or, take, set, Some, None, Ok, Err, Result, sym, refl, ap, ◌∙◌, arith, take-suc, take-suc-set}
 use mathlib.Core.List.{reverse-append}
 use Rattle.std.specs.List.{slice_get}
+use Rattle.std.specs.Option.{IsSome}
 use Rattle.std.proofs.lemmas.Option.{slice_get-get_or}
 use Rattle.std.proofs.lemmas.Bool.{lt-ltb, le-leb, and_from}
 use Rattle.refusal.specs.declared.Refusal.{Refusal}
@@ -20,12 +21,11 @@ last_is u xs h k =
     let t : has_last u xs ≡ true = and_from (ltb 0 u) (leb u (length xs)) (lt-ltb 0 u h) (le-leb u (length xs) k) in
     ap (λ (b : Bool). cond b (slice_get xs (u - 1)) None) t
 
-last_none : {X : Type 0} (u : ℕ) (xs : List X) → 0 < u → u ≤ length xs → None ≡ last_record u xs → ⊥
-last_none {X} u [] h k e = omega arith
-last_none {X} u (x ∷ xs) h k e =
+pub last_some : {X : Type 0} (u : ℕ) (xs : List X) → 0 < u → u ≤ length xs → IsSome (last_record u xs)
+last_some {X} u [] h k = absurd (omega arith)
+last_some {X} u (x ∷ xs) h k =
     let s : u - 1 < length (x ∷ xs) = omega arith in
-    let n : None ≡ Some (get_or (x ∷ xs) (u - 1) x) = e ∙ (last_is u (x ∷ xs) h k ∙ slice_get-get_or (x ∷ xs) (u - 1) x s) in
-    cc
+    rw (last_is u (x ∷ xs) h k ∙ slice_get-get_or (x ∷ xs) (u - 1) x s) refl
 
 last_entry : {X : Type 0} (u : ℕ) (xs : List X) (x : X) → 0 < u → u ≤ length xs → Some x ≡ last_record u xs → x ≡ get_or xs (u - 1) x
 last_entry {X} u xs x h k e =
@@ -88,6 +88,3 @@ module _ {P : Type 0} (p q : Places) (d b : Snapshot P) (e : Entry P) (n k : ℕ
 
   pub one_less : Ok tt ≡ noted_answer q (restored d.state e) → b.used ≡ d.used - 1
   one_less a = ap (λ (v : Snapshot P). v.used) after ∙ ok_used q (restored d.state e) d a
-
-pub never_none : {P : Type 0} (d : Snapshot P) → 0 < d.used → d.used ≤ length d.slots → None ≡ last_record d.used d.slots → ⊥
-never_none d h k e = last_none d.used d.slots h k e

@@ -48,12 +48,7 @@ impl<P: Processor> Session<P> {
         ensures places { B.Bus.places bus.new ≡ B.Bus.places bus.old }
     {
         for done in 0..count {
-            let Some(entry) = self.journal.last(journal) else {
-                return Taken {
-                    done,
-                    refusal: None,
-                };
-            };
+            let entry = self.journal.last(journal).unwrap();
             if let Err(refusal) = self.retreat(bus, journal, entry) {
                 return Taken {
                     done,

@@ -1,6 +1,6 @@
 // Two sessions on one page.
 ghost use Rattle.std.specs.Prelude.{length};
-ghost use Rattle.session_log.specs.Alike.{stores_of, left, LeftBy, AlikeAgree};
+ghost use Rattle.session_log.specs.Alike.{stores, stores_of, left, LeftBy, AlikeAgree};
 
 use crate::line::Line;
 use crate::log::replay;
@@ -48,12 +48,14 @@ pub fn replay_both<
     rows: &mut [Line<P>],
 ) -> (Result<Session<P>, Refusal>, Result<Session<P>, Refusal>)
     ensures agreed { AlikeAgree P.Processor.rules tape.now stack
-        (stores_of M.ReadStore.shown M.WriteStore.unlocked S.ReadStore.shown S.WriteStore.unlocked K.ReadStore.shown one.old)
-        (stores_of N.ReadStore.shown N.WriteStore.unlocked T.ReadStore.shown T.WriteStore.unlocked L.ReadStore.shown two.old)
-        (left result.0 (stores_of M.ReadStore.shown M.WriteStore.unlocked S.ReadStore.shown S.WriteStore.unlocked K.ReadStore.shown one.new)
-        journal.new lines.new)
-        (left result.1 (stores_of N.ReadStore.shown N.WriteStore.unlocked T.ReadStore.shown T.WriteStore.unlocked L.ReadStore.shown two.new)
-        other.new rows.new) }
+        (stores (M.ReadStore.shown one.old.memory) (M.WriteStore.unlocked one.old.memory)
+        (S.ReadStore.shown one.old.screen) (S.WriteStore.unlocked one.old.screen) (K.ReadStore.shown one.old.keys))
+        (stores (N.ReadStore.shown two.old.memory) (N.WriteStore.unlocked two.old.memory)
+        (T.ReadStore.shown two.old.screen) (T.WriteStore.unlocked two.old.screen) (L.ReadStore.shown two.old.keys))
+        (left result.0 (stores (M.ReadStore.shown one.new.memory) (M.WriteStore.unlocked one.new.memory)
+        (S.ReadStore.shown one.new.screen) (S.WriteStore.unlocked one.new.screen) (K.ReadStore.shown one.new.keys)) journal.new lines.new)
+        (left result.1 (stores (N.ReadStore.shown two.new.memory) (N.WriteStore.unlocked two.new.memory)
+        (T.ReadStore.shown two.new.screen) (T.WriteStore.unlocked two.new.screen) (L.ReadStore.shown two.new.keys)) other.new rows.new) }
 {
     let first = replay_on(one, journal, tape, stack, lines);
     let second = replay_on(two, other, tape, stack, rows);

@@ -1,4 +1,4 @@
-use Rattle.std.proofs.Common.{◌∙◌, arith}
+use Rattle.std.proofs.Common.{◌∙◌}
 use Rattle.session.proofs.RunLaws.{more, stops_after, stops_before, one_more}
 use Rattle.session.proofs.state.Session.run_on.Goals as goal
 
@@ -10,7 +10,6 @@ loop-done-preserved g c =
       more g.P.Processor.rules _ _ _ _ _ _ _ l.invariant.1 c.loop-done-test.true l.invariant.0 e.after a,
       e.places ∙ l.invariant.1,
       one_more g.P.Processor.rules _ _ _ _ _ _ _ l.invariant.1 c.loop-done-test.true l.invariant.0 e.after _ l.invariant.2,
-      omega arith,
     )
 
 pub returns-in-Ok-Some : goal.returns-in-Ok-Some
