@@ -78,7 +78,7 @@ module _ {P : Type 0} (r : Rules P) where
     far_none n k s e q = (0, sym (add-zero k), sym (add-zero (count s)), sym (add-zero s.depth), goes_none s.last s.depth n e q)
 
     one_ending : (d n : ℕ) (v : State P) (m : Mark) → r.mark v.processor ≡ m → ending r j d (suc n) 1 v ≡ choose true (is_halted m) (kept.is_break m) (eqb 1 (suc n)) (ltb (d + 1) j) (by_next (instruction r v))
-    one_ending d n v m e = ap (λ (x : Mark). choose true (is_halted x) (kept.is_break x) (eqb 1 (suc n)) (ltb (d + 1) j) (by_next (instruction r v))) e
+    one_ending d n v m e = rw e refl
 
     far_mark : (n k : ℕ) (s : Plain P) (v : State P) → ending r j s.depth (suc n) 0 s.last ≡ None → instruction r s.last ≡ Ok v → Far n (k + 1) (push v s) (plain_run r j n (k + 1) (push v s)) → (m : Mark) → r.mark v.processor ≡ m → Far (suc n) k s (marked r j n k v s m)
     far_mark n k s v go step more mark.Ready m =
@@ -90,12 +90,8 @@ module _ {P : Type 0} (r : Rules P) where
 
     first_ending : (n : ℕ) (s : Plain P) (h b : Bool) (o : Result (State P) Fault) → is_halted (r.mark s.last.processor) ≡ h → ltb s.depth j ≡ b → instruction r s.last ≡ o → ending r j s.depth (suc n) 0 s.last ≡ cond h (Some halted) (cond b (by_next o) (Some full))
     first_ending n s h b o e f q =
-        let d0 : ltb (s.depth + 0) j ≡ b = ap (λ (x : ℕ). ltb x j) (add-zero s.depth) ∙ f in
         let n0 : eqb 0 (suc n) ≡ false = ne_eqb 0 (suc n) (λ x. omega arith) in
-        ap (λ (x : Bool). choose false (is_halted (r.mark s.last.processor)) (kept.is_break (r.mark s.last.processor)) x (ltb (s.depth + 0) j) (by_next (instruction r s.last))) n0
-        ∙ (ap (λ (x : Bool). cond x (Some halted) (cond (ltb (s.depth + 0) j) (by_next (instruction r s.last)) (Some full))) e
-        ∙ (ap (λ (x : Bool). cond h (Some halted) (cond x (by_next (instruction r s.last)) (Some full))) d0
-        ∙ ap (λ (x : Result (State P) Fault). cond h (Some halted) (cond b (by_next x) (Some full))) q))
+        rw (n0, e, add-zero s.depth, f, q) refl
 
     far_move : (n k : ℕ) (s : Plain P) → ((v : State P) → Far n (k + 1) (push v s) (plain_run r j n (k + 1) (push v s))) → (h b : Bool) (o : Result (State P) Fault) → ending r j s.depth (suc n) 0 s.last ≡ cond h (Some halted) (cond b (by_next o) (Some full)) → instruction r s.last ≡ o → Far (suc n) k s (moved r j n k s (tested h b o))
     far_move n k s more true b o q e = far_none (suc n) k s halted q

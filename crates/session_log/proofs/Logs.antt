@@ -22,14 +22,10 @@ module _ {P : Type 0} (r : Rules P) (w : State P) (j : ℕ) where
   CallSim x y = (past : List (State P)) × (y ≡ replied (plain_of x.after past) x.reply) × Tied r w j x.after past
 
   from_run : (x : Ended P) (y : PlainRan P) → RunSim r w j x y → CallSim (served x.after (Ok (ran x.done x.ending))) (replied y.plain (Ok (ran y.done y.ending)))
-  from_run x y (past, e, i) = (past, ap (λ (z : PlainRan P). replied z.plain (Ok (ran z.done z.ending))) e, i)
+  from_run x y (past, e, i) = (past, rw e refl, i)
 
   from_back : (n : ℕ) (x : Gone P) (s : Plain P) → BackSim r w j x n s → CallSim (served x.after (Ok (taken x.done x.fault))) (replied s (Ok (taken n None)))
-  from_back n x s (past, e, k, f, i) =
-      let a : Plain P → PlainServed P = λ z. replied z (Ok (taken n None)) in
-      let b : ℕ → PlainServed P = λ z. replied (plain_of x.after past) (Ok (taken z None)) in
-      let c : Option Fault → PlainServed P = λ z. replied (plain_of x.after past) (Ok (taken x.done z)) in
-      (past, ap a e ∙ (ap b (sym k) ∙ ap c (sym f)), i)
+  from_back n x s (past, e, k, f, i) = (past, rw (e, k, f) refl, i)
 
   by_tests : (d : Snapshot P) (past : List (State P)) → Tied r w j d past → (a b : Bool) (f g : Cause) (x : Ended P) (y : PlainServed P) → CallSim (served_run (Ok x) d) y
       → CallSim (served_run (cond a (Err (rule f)) (cond b (Err (rule g)) (Ok x))) d) (cond a (replied (plain_of d past) (Err (rule f))) (cond b (replied (plain_of d past) (Err (rule g))) y))
@@ -63,9 +59,7 @@ module _ {P : Type 0} (r : Rules P) (w : State P) (j : ℕ) where
   LogSim p ls d s = (past : List (State P)) × (plain_after r j ls s ≡ plain_of (log_after r ls d) past) × (plain_lines r p j ls s ≡ log_lines r p ls d) × Tied r w j (log_after r ls d) past
 
   filled_same : (p : Places) (l : Line P) (x : Served P) (y : PlainServed P) → CallSim x y → filled p l y ≡ line_by p l x
-  filled_same p l x y (past, e, i) =
-      let F : ℕ → Line P = λ k. record { call = l.call; answer = (line_by p l x).answer; count = k; processor = x.after.state.processor } in
-      ap (filled p l) e ∙ ap F (sym i.kept)
+  filled_same p l x y (past, e, i) = rw (e, i.kept) refl
 
   pub sim_log : (p : Places) (ls : List (Line P)) (d : Snapshot P) (past : List (State P)) → Tied r w j d past → LogSim p ls d (plain_of d past)
   sim_log p [] d past i = (past, refl, refl, i)
@@ -84,18 +78,11 @@ module _ {P : Type 0} (r : Rules P) (w : State P) (j : ℕ) where
 
   -- standing as a plain session, in both forms
   pub stands_is : (d : Snapshot P) (s : Plain P) → Stands r w j d s → s ≡ plain_of d s.past
-  stands_is d s i =
-      let F : State P → Plain P = λ u. record { last = u; past = s.past; depth = s.depth } in
-      let G : ℕ → Plain P = λ n. record { last = d.state; past = s.past; depth = n } in
-      ap F (sym i.last) ∙ ap G (sym i.depth)
+  stands_is d s i = rw (i.last, i.depth) refl
 
   pub stands_tied : (d : Snapshot P) (s : Plain P) → Stands r w j d s → Tied r w j d s.past
-  stands_tied d s i =
-      let F : State P → Type 0 = λ u. Undo (newest d.used d.slots) u s.past in
-      let G : State P → Type 0 = λ u. Follow r w u s.past in
-      record { kept = i.kept; lent = i.lent; within = i.within; undo = subst F (sym i.last) i.undo; follow = subst G (sym i.last) i.follow }
+  stands_tied d s i = record { kept = i.kept; lent = i.lent; within = i.within; undo = rw i.last i.undo; follow = rw i.last i.follow }
 
   pub tied_stands : (d : Snapshot P) (s : Plain P) (past : List (State P)) → s ≡ plain_of d past → Tied r w j d past → Stands r w j d s
   tied_stands d s past e i =
-      let t : Stands r w j d (plain_of d past) = record { last = refl; kept = i.kept; depth = refl; lent = i.lent; within = i.within; undo = i.undo; follow = i.follow } in
-      subst (λ (x : Plain P). Stands r w j d x) (sym e) t
+      rw e (record { last = refl; kept = i.kept; depth = refl; lent = i.lent; within = i.within; undo = i.undo; follow = i.follow })
