@@ -31,9 +31,10 @@ keys_same k l h = fun_ext (λ c. cond_same (ltb c 65536) (k c) (l c) None (λ e.
 -- alike stores are seen as one
 seen_same : (x y : Stores) → Alike x y → seen x ≡ seen y
 seen_same x y h =
-    ap (λ (m : Cells). view m (cells x.screen x.screen_open) (keys x.keys)) (cells_same x.memory y.memory x.memory_open y.memory_open h.memory)
-    ∙ (ap (λ (s : Cells). view (cells y.memory y.memory_open) s (keys x.keys)) (cells_same x.screen y.screen x.screen_open y.screen_open h.screen)
-    ∙ ap (λ (k : ℕ → Option ℕ). view (cells y.memory y.memory_open) (cells y.screen y.screen_open) k) (keys_same x.keys y.keys h.keys))
+    let m = cells_same x.memory y.memory x.memory_open y.memory_open h.memory in
+    let s = cells_same x.screen y.screen x.screen_open y.screen_open h.screen in
+    let k = keys_same x.keys y.keys h.keys in
+    cc
 
 -- refused alike, but for the place
 abbrev SameAnswer : Result Unit Refusal → Result Unit Refusal → Type 0
@@ -66,8 +67,6 @@ module _ {P : Type 0} (r : Rules P) where
   -- the page after equally many instructions from equal openings
   same_page : (w u : State P) (c d : ℕ) (s t : State P) → w ≡ u → c ≡ d → after r c w ≡ Ok s → after r d u ≡ Ok t → s ≡ t
   same_page w u c d s t e f a b =
-      let x : after r c w ≡ after r d u = ap (after r c) e ∙ ap (λ (n : ℕ). after r n u) f in
-      let y : ◌≡◌ {A = Result (State P) Fault} (Ok s) (Ok t) = sym a ∙ (x ∙ b) in
       cc
 
   same_line : (w u : State P) (x y : Line P) → w ≡ u → x.count ≡ y.count → PageLine r w x → PageLine r u y → SameState r w u x y
@@ -96,8 +95,7 @@ module _ {P : Type 0} (r : Rules P) where
     agreed : (a b : Result (Session P) Refusal) → opening_answer a ≡ load_answer (loaded p v tape) → opening_answer b ≡ load_answer (loaded q v' tape) → Log p w j ls x a → Log q u k ms y b → Agreed r w u x y a b
     agreed a b e f g h =
         let n : load_answer (loaded q v tape) ≡ opening_answer b = ap (λ (z : View). load_answer (loaded q z tape)) same ∙ sym f in
-        let s : SameAnswer (opening_answer a) (load_answer (loaded q v tape)) = subst (λ (z : Result Unit Refusal). SameAnswer z (load_answer (loaded q v tape))) (sym e) (tape_same p q v tape (checked tape)) in
-        by_answers a b (subst (λ (z : Result Unit Refusal). SameAnswer (opening_answer a) z) n s) g h
+        by_answers a b (rw (e, ← n) (tape_same p q v tape (checked tape))) g h
 
 -- two logs agree where their stores are alike
 pub logs_agree : {P : Type 0} (r : Rules P) (tape : List ℕ) (stack j k : ℕ) (a b : Stores) (ls ms : List (Line P)) (x y : Left P) → LeftBy r tape stack j a ls x → LeftBy r tape stack k b ms y → AlikeAgree r tape stack a b x y

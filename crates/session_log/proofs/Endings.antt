@@ -86,7 +86,7 @@ module _ {P : Type 0} (r : Rules P) (j d n i : ℕ) (u : State P) where
   pub some_met : (e : Ending) → i < n → ending r j d n i u ≡ Some e → Met r j d i u
   some_met e l q =
       let f : eqb i n ≡ false = ne_eqb i n (λ x. omega arith) in
-      let k : choose (ltb 0 i) h b false (ltb (d + i) j) (by_next (instruction r u)) ≡ Some e = ap (λ (x : Bool). choose (ltb 0 i) h b x (ltb (d + i) j) (by_next (instruction r u))) (sym f) ∙ q in
+      let k : choose (ltb 0 i) h b false (ltb (d + i) j) (by_next (instruction r u)) ≡ Some e = rw f at q in
       met_by (choose_some (ltb 0 i) h b (ltb (d + i) j) (by_next (instruction r u)) e k)
     where
       met_by : Held (ltb 0 i) h b (ltb (d + i) j) (by_next (instruction r u)) e → Met r j d i u

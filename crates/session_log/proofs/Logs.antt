@@ -44,8 +44,7 @@ module _ {P : Type 0} (r : Rules P) (w : State P) (j : ℕ) where
   sim_call (Run n) d past i =
       let x = runs_on r n 0 d in
       let y = plain_run r j n 0 (plain_of d past) in
-      let F : ℕ → Type 0 = λ m. CallSim (serves r (Run n) d) (cond (ltb 1000000 n) (replied (plain_of d past) (Err (rule RunTooLong))) (cond (ltb 4000000000 (m + n)) (replied (plain_of d past) (Err (rule CountTooHigh))) (replied y.plain (Ok (ran y.done y.ending))))) in
-      subst F i.kept (by_tests d past i (ltb 1000000 n) (ltb 4000000000 (d.count + n)) RunTooLong CountTooHigh x (replied y.plain (Ok (ran y.done y.ending))) (from_run x y (sim_run r w j n 0 d past i)))
+      rw (← i.kept) (by_tests d past i (ltb 1000000 n) (ltb 4000000000 (d.count + n)) RunTooLong CountTooHigh x (replied y.plain (Ok (ran y.done y.ending))) (from_run x y (sim_run r w j n 0 d past i)))
   sim_call (Back n) d past i =
       let x = backs_on n 0 d in
       let g : ltb (length d.slots) d.used ≡ false = le-ltb (length d.slots) d.used (omega (arith, i.lent, i.within)) in
@@ -71,8 +70,7 @@ module _ {P : Type 0} (r : Rules P) (w : State P) (j : ℕ) where
       let e : y.plain ≡ plain_of x.after a.0 = ap (λ (z : PlainServed P). z.plain) a.1 in (
         b.0,
         ap (plain_after r j ls) e ∙ b.1,
-        ap (λ (z : Line P). z ∷ plain_lines r p j ls y.plain) (filled_same p l x y a)
-            ∙ (ap (λ (z : Plain P). line_by p l x ∷ plain_lines r p j ls z) e ∙ ap (λ (zs : List (Line P)). line_by p l x ∷ zs) b.2),
+        rw (filled_same p l x y a, e, b.2) refl,
         b.3,
       )
 

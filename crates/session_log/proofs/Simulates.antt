@@ -34,14 +34,11 @@ module _ {P : Type 0} (r : Rules P) (w : State P) (j : ℕ) where
   tied_noted d past m i h e =
       let x : Entry P = record { before = d.state.processor; undo = m.undo } in
       let s : d.used < length d.slots = omega (arith, i.lent) in
-      let n : d.used + 1 ≡ suc d.used = add-one d.used in
-      let q : newest (d.used + 1) (set d.slots d.used x) ≡ x ∷ newest d.used d.slots = ap (λ (u : ℕ). newest u (set d.slots d.used x)) n ∙ newest_set d.used d.slots x s in
-      let F : List (Entry P) → Type 0 = λ es. Undo es m.state (d.state ∷ past) in
       record {
         kept = omega (arith, i.kept);
         lent = length-set d.slots d.used x ∙ i.lent;
         within = omega arith;
-        undo = subst F (sym q) (entry_undoes r d.state m e, i.undo);
+        undo = rw (add-one d.used, newest_set d.used d.slots x s) (entry_undoes r d.state m e, i.undo);
         follow = (ap state_of e, i.follow);
       }
 
@@ -88,17 +85,14 @@ module _ {P : Type 0} (r : Rules P) (w : State P) (j : ℕ) where
       let s : d.used ≡ suc (d.used - 1) = omega arith in
       let l : d.used - 1 < length d.slots = omega (arith, i.lent, i.within) in
       let a : newest d.used d.slots ≡ get_or d.slots (d.used - 1) e ∷ newest (d.used - 1) d.slots = ap (λ (u : ℕ). newest u d.slots) s ∙ newest_next (d.used - 1) d.slots e l in
-      let b : es ≡ newest (d.used - 1) d.slots = cc in
-      let F : List (Entry P) → Type 0 = λ xs. Undo xs m.state past in
-      let G : State P → Type 0 = λ x. Undo es x past in
-      let H : State P → Type 0 = λ x. Follow r w x past in (
+      let b : es ≡ newest (d.used - 1) d.slots = cc in (
         b,
         record {
           kept = omega (arith, i.kept);
           lent = i.lent;
           within = omega (arith, i.within);
-          undo = subst F b (subst G (sym z) o);
-          follow = subst H (sym z) i.follow.1;
+          undo = rw (← b, z) o;
+          follow = rw z i.follow.1;
         },
       )
 
@@ -108,10 +102,7 @@ module _ {P : Type 0} (r : Rules P) (w : State P) (j : ℕ) where
       let f : m.state ≡ v = cc in
       let a = tied_undone d e es m v past q (omega arith) f i o in
       let c : k + 1 + n ≡ k + suc n = omega arith in
-      let G : State P → Type 0 = λ x. Undo es x past in
-      let F : ℕ → Type 0 = λ y. BackSim (takes (take n es) (k + 1) (undone (Ok m) d)) y (drops n (plain_of (undone (Ok m) d) past)) in
-      let H : State P → Type 0 = λ x. BackSim (takes (take n es) (k + 1) (undone (Ok m) d)) (k + suc n) (drops n (record { last = x; past = past; depth = d.used - 1 })) in
-      subst H f (subst F c (more (undone (Ok m) d) a.0 (omega arith) a.1 (subst G (sym f) o)))
+      rw (← f, ← c) (more (undone (Ok m) d) a.0 (omega arith) a.1 (rw f o))
 
   sim_takes : (n : ℕ) (es : List (Entry P)) (k : ℕ) (d : Snapshot P) (past : List (State P)) → es ≡ newest d.used d.slots → n ≤ d.used → Tied r w j d past → Undo es d.state past → BackSim (takes (take n es) k d) (k + n) (drops n (plain_of d past))
   sim_takes zero es k d past q h i o = (past, refl, sym (add-zero k), refl, i)
@@ -122,5 +113,4 @@ module _ {P : Type 0} (r : Rules P) (w : State P) (j : ℕ) where
 
   pub sim_back : (n : ℕ) (d : Snapshot P) (past : List (State P)) → n ≤ d.used → Tied r w j d past → BackSim (takes (take n (newest d.used d.slots)) 0 d) n (drops n (plain_of d past))
   sim_back n d past h i =
-      let F : ℕ → Type 0 = λ m. BackSim (takes (take n (newest d.used d.slots)) 0 d) m (drops n (plain_of d past)) in
-      subst F (zero-add n) (sim_takes n (newest d.used d.slots) 0 d past refl h i i.undo)
+      rw (zero-add n) at (sim_takes n (newest d.used d.slots) 0 d past refl h i i.undo)

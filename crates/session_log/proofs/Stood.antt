@@ -39,7 +39,7 @@ module _ {P : Type 0} (r : Rules P) (p : Places) (w : State P) (j : ℕ) where
 
   page_stands : (d : Snapshot P) (s : Plain P) → Stands r w j d s → after r d.count w ≡ Ok d.state
   page_stands d s i =
-      ap (λ (k : ℕ). after r k w) i.kept ∙ (follow_after r w s.last s.past i.follow ∙ ap (λ (x : State P). Ok x) (sym i.last))
+      rw (i.kept, i.last) (follow_after r w s.last s.past i.follow)
 
   -- a call on a session that stands as a plain session
   pub answered : (c : Call) (d b : Snapshot P) (s : Plain P) (x : Result Answer Refusal) → Stands r w j d s → x ≡ told_line p (serves r c d).reply → b ≡ (serves r c d).after → Answered r p w j c x b s
@@ -50,7 +50,7 @@ module _ {P : Type 0} (r : Rules P) (p : Places) (w : State P) (j : ℕ) where
       let g : (plain_call r j c s).plain ≡ plain_of b a.0 = ap (λ (z : PlainServed P). z.plain) y ∙ ap (λ (z : Snapshot P). plain_of z a.0) (sym f) in
       record {
         answer = e ∙ ap (told_line p) (sym (ap (λ (z : PlainServed P). z.reply) y));
-        stands = tied_stands r w j b (plain_call r j c s).plain a.0 g (subst (λ (z : Snapshot P). Tied r w j z a.0) (sym f) a.2);
+        stands = tied_stands r w j b (plain_call r j c s).plain a.0 g (rw f a.2);
       }
 
   -- a piece of log on a session that stands as a plain session
@@ -60,11 +60,11 @@ module _ {P : Type 0} (r : Rules P) (p : Places) (w : State P) (j : ℕ) where
       let a = sim_log r w j p ls d s.past (stands_tied r w j d s i) in
       let g : plain_after r j ls s ≡ plain_of b a.0 = ap (plain_after r j ls) q ∙ (a.1 ∙ ap (λ (z : Snapshot P). plain_of z a.0) (sym e)) in
       let l : ms ≡ plain_lines r p j ls s = f ∙ (sym a.2 ∙ ap (plain_lines r p j ls) (sym q)) in
-      let t : Stands r w j b (plain_after r j ls s) = tied_stands r w j b (plain_after r j ls s) a.0 g (subst (λ (z : Snapshot P). Tied r w j z a.0) (sym e) a.3) in
+      let t : Stands r w j b (plain_after r j ls s) = tied_stands r w j b (plain_after r j ls s) a.0 g (rw e a.3) in
       record {
         lines = l;
         stands = t;
-        kept = subst (λ (zs : List (Line P)). LogKept r p j w (count s) s.depth zs) (sym l) (kept_log r p j w ls s (sound d s i));
+        kept = rw l (kept_log r p j w ls s (sound d s i));
         page = page_stands b (plain_after r j ls s) t;
       }
 
@@ -95,8 +95,7 @@ module _ {P : Type 0} (r : Rules P) (stack : ℕ) (v : View) (tape : List ℕ) w
   pub opened_snapshot : (s : Session P) (v' : View) (slots : List (Entry P)) → own s ≡ fresh_own r stack → v' ≡ put_all v (puts tape) → snapshot s v' slots ≡ opened r stack v tape slots
   opened_snapshot s v' slots e f =
       let F : Own P → Snapshot P = λ o. record { state = state o.processor v'; count = o.count; used = o.used; slots = slots } in
-      let G : View → Snapshot P = λ x. record { state = state (r.start stack) x; count = 0; used = 0; slots = slots } in
-      ap F e ∙ ap G f
+      ap F e ∙ rw f refl
 
   -- what an opening answers, and what it leaves
   abbrev pub Opens : Result (Session P) Refusal → View → List (Entry P) → Result View Refusal → Type 0
