@@ -24,11 +24,9 @@ module _ {P : Type 0} (r : Rules P) (p : Places) (w : State P) (j m : ℕ) (smal
   run_accepted : (s : Plain P) → count s + m ≤ 4000000000 → let x = plain_run r j m 0 s in plain_call r j (Run m) s ≡ replied x.plain (Ok (ran x.done x.ending))
   run_accepted s h =
       let x = plain_run r j m 0 s in
-      let y = replied x.plain (Ok (ran x.done x.ending)) in
       let a : ltb 1000000 m ≡ false = le-ltb 1000000 m small in
       let b : ltb 4000000000 (count s + m) ≡ false = le-ltb 4000000000 (count s + m) h in
-      ap (λ (z : Bool). cond z (replied s (Err (rule RunTooLong))) (cond (ltb 4000000000 (count s + m)) (replied s (Err (rule CountTooHigh))) y)) a
-      ∙ ap (λ (z : Bool). cond z (replied s (Err (rule CountTooHigh))) y) b
+      rw (a, b) refl
 
   -- one round on a session that stands as a plain session
   abbrev RoundStands : Snapshot P → Plain P → Type 0
@@ -40,7 +38,7 @@ module _ {P : Type 0} (r : Rules P) (p : Places) (w : State P) (j m : ℕ) (smal
       let c = run_accepted s h in
       let a = answered r p w j (Run m) d _ s _ i refl refl in
       let b = (serves r (Run m) d).after in
-      let t : Stands r w j b x.plain = subst (λ (z : PlainServed P). Stands r w j b z.plain) c a.stands in
+      let t : Stands r w j b x.plain = rw c at a.stands in
       let f = answered r p w j Forget b _ x.plain _ t refl refl in
       (ap stop_of a.answer ∙ ap (λ (z : PlainServed P). stop_of (told_line p z.reply)) c, f.stands)
 
@@ -73,7 +71,7 @@ module _ {P : Type 0} (r : Rules P) (p : Places) (w : State P) (j m : ℕ) (smal
         let t' = tally r j m 0 s in
         let n' : y.after.count ≡ x.done + c = o.1.kept ∙ omega (arith, t'.states) in
         let z : Whole y (deeper_ran r c x) = (o.0, n', o.1.last) in
-        subst (λ (v : PlainRan P). Whole (rounds r p m n d) v) (sym stays) (subst (λ (u : Turned P). Whole u (deeper_ran r c x)) (sym a) z)
+        rw (stays, a) z
 
     -- a round that goes on
     next_round : (n t c : ℕ) (d : Snapshot P) (s : Plain P) → Stands r w j d s → s.depth ≡ 0 → count s ≡ c → count s + m ≤ 4000000000 → (plain_run r j m 0 s).ending ≡ counted → Split t c s
@@ -87,7 +85,7 @@ module _ {P : Type 0} (r : Rules P) (p : Places) (w : State P) (j m : ℕ) (smal
         let F : ℕ → PlainRan P = λ i. plain_run r l (t - m) (x.done + c) (record { last = x.plain.last; past = x.plain.past; depth = i }) in
         let g = plain_run r l (t - m) (x.done + c) (deeper r (x.done + c) (emptied x.plain)) in
         let b : g ≡ plain_run r l t c (deeper r c s) = ap F f ∙ sym (e ∙ ap (by_ending (t - m) (deeper_ran r c x)) q) in
-        subst (λ (v : PlainRan P). Whole (rounds r p m (suc n) d) v) b (subst (λ (u : Turned P). Whole u g) (sym a) rest)
+        rw (← b, a) rest
 
     module _ (enough : m ≤ j) (bound : l ≤ 1000000) where
       abbrev Rounds : ℕ → Type 0
@@ -118,16 +116,13 @@ module _ {P : Type 0} (r : Rules P) (p : Places) (w : State P) (j m : ℕ) (smal
       rounds_run zero t c d s i z k q v =
           let f : t ≡ 0 = q ∙ zero-mul m in
           let x : Whole (record { after = d; stop = stop.CountReached }) (plain_run r l 0 c (deeper r c s)) = (refl, i.kept ∙ k, i.last) in
-          subst (λ (t : ℕ). Whole (rounds r p m 0 d) (plain_run r l t c (deeper r c s))) (sym f) (subst (λ (u : Turned P). Whole u (plain_run r l 0 c (deeper r c s))) (sym (rounds_none r p m d)) x)
+          rw (f, rounds_none r p m d) x
       rounds_run (suc n) t c d s i z k q v = by_first n t c d s i z k q v (rounds_run n) (plain_run r j m 0 s).ending refl
 
   -- a journal that is too short for a round
   module _ (short : j < m) where
     deeper_none : (x : PlainRan P) → deeper_ran r 0 x ≡ x
-    deeper_none x =
-        let F : ℕ → PlainRan P = λ i. plain_ran (record { last = x.plain.last; past = x.plain.past; depth = i }) (x.done + 0) x.ending in
-        let G : ℕ → PlainRan P = λ i. plain_ran x.plain i x.ending in
-        ap F (add-zero x.plain.depth) ∙ ap G (add-zero x.done)
+    deeper_none x = rw (add-zero x.plain.depth, add-zero x.done) refl
 
     by_short : (n t : ℕ) (d : Snapshot P) → Stands r w j d (fresh w) → 0 < n → m ≤ t → (e : Ending) → (plain_run r j m 0 (fresh w)).ending ≡ e → (plain_run r j t 0 (fresh w) ≡ by_ending j (t - m) (plain_run r j m 0 (fresh w)) e) → Whole (rounds r p m n d) (plain_run r j t 0 (fresh w))
     by_short n t d i h u counted q v =

@@ -28,7 +28,7 @@ module _ {P : Type 0} (r : Rules P) where
 
     -- a run of a + n is a run of a, and then one of n
     pub more : (a n m k : ℕ) (s : Plain P) → m ≡ a + n → plain_run r j m k s ≡ then_on j n (plain_run r j a k s)
-    more zero n m k s e = let f : m ≡ n = omega arith in ap (λ (i : ℕ). plain_run r j i k s) f
+    more zero n m k s e = let f : m ≡ n = omega arith in rw f refl
     more (suc a) n zero k s e = absurd (omega arith)
     more (suc a) n (suc m) k s e =
         more_move a n m k s (λ v. more a n m (k + 1) (push v s) (omega arith)) (is_halted (r.mark s.last.processor)) (ltb s.depth j) (instruction r s.last)
@@ -83,15 +83,15 @@ module _ {P : Type 0} (r : Rules P) where
 
     push_deeper : (k : ℕ) (v : State P) (s : Plain P) (e : Ending) → plain_ran (push v (deeper c s)) (k + c + 1) e ≡ plain_ran (deeper c (push v s)) (k + 1 + c) e
     push_deeper k v s e =
-        let F : ℕ → PlainRan P = λ d. plain_ran (record { last = v; past = s.last ∷ s.past; depth = d }) (k + c + 1) e in
-        let G : ℕ → PlainRan P = λ i. plain_ran (deeper c (push v s)) i e in
-        ap F (omega arith) ∙ ap G (omega arith)
+        let a : s.depth + c + 1 ≡ s.depth + 1 + c = omega arith in
+        let b : k + c + 1 ≡ k + 1 + c = omega arith in
+        rw (a, b) refl
 
     deep_mark : (n k : ℕ) (v : State P) (s : Plain P) → Deep n (k + 1) (push v s) → (m : Mark) → marked r l n (k + c) v (deeper c s) m ≡ deeper_ran c (marked r j n k v s m)
     deep_mark n k v s more mark.Ready =
-        let F : ℕ → PlainRan P = λ d. plain_run r l n (k + c + 1) (record { last = v; past = s.last ∷ s.past; depth = d }) in
-        let G : ℕ → PlainRan P = λ i. plain_run r l n i (deeper c (push v s)) in
-        ap F (omega arith) ∙ (ap G (omega arith) ∙ more)
+        let a : s.depth + c + 1 ≡ s.depth + 1 + c = omega arith in
+        let b : k + c + 1 ≡ k + 1 + c = omega arith in
+        rw (a, b) more
     deep_mark n k v s more mark.AtBreak = push_deeper k v s at_break
     deep_mark n k v s more mark.Halted = push_deeper k v s halted
 
