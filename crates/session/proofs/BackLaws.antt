@@ -77,14 +77,13 @@ module _ {P : Type 0} (p q : Places) (d b : Snapshot P) (e : Entry P) (n k : ℕ
       sym (ap (λ (m : ℕ). backs_on m k d) s ∙ back_suc d e (n - (k + 1)) k (omega arith) there is) ∙ whole
 
   pub one_back : Ok tt ≡ noted_answer q (restored d.state e) → backs_on (n - (k + 1)) (k + 1) b ≡ x
-  one_back a = ap (backs_on (n - (k + 1)) (k + 1)) after ∙ (sym (by_ok d (n - (k + 1)) k q (restored d.state e) a) ∙ back_now)
+  one_back a = rw after (sym (by_ok d (n - (k + 1)) k q (restored d.state e) a) ∙ back_now)
 
   pub stops_back : (y : Refusal) → Err y ≡ noted_answer q (restored d.state e) → ((record { done = k; refusal = Some y }) ≡ told_taken p x) × (b ≡ x.after)
   stops_back y a =
       let z = by_err d (n - (k + 1)) k q (restored d.state e) y a in
-      let w : gone b k (Some z.0) ≡ x = ap (λ (v : Snapshot P). gone v k (Some z.0)) after ∙ (sym z.1 ∙ back_now) in
-      let f : Refusal → Taken = λ t. record { done = k; refusal = Some t } in
-      (ap f (z.2 ∙ ap (λ (t : Places). told t z.0) told_same) ∙ ap (told_taken p) w, ap (λ (v : Gone P). v.after) w)
+      let w : gone b k (Some z.0) ≡ x = rw after (sym z.1 ∙ back_now) in
+      (cc, rw (← w) refl)
 
   pub one_less : Ok tt ≡ noted_answer q (restored d.state e) → b.used ≡ d.used - 1
-  one_less a = ap (λ (v : Snapshot P). v.used) after ∙ ok_used q (restored d.state e) d a
+  one_less a = rw after (ok_used q (restored d.state e) d a)

@@ -38,7 +38,7 @@ module _ (p : Places) (v : View) (ws : List ℕ) (i place : ℕ) (whole : probe_
 
   pub probe_more : (place' : ℕ) → i < length ws → place' ≡ place_after (item (get_or ws i 0)) place → Ok tt ≡ answer p (probe_put v (put_by (item (get_or ws i 0)) place)) → probe_all v (puts_from place' (drop (i + 1) ws)) ≡ probe_all v (puts ws)
   probe_more place' h q a =
-      ap (λ (x : ℕ). probe_all v (puts_from x (drop (i + 1) ws))) q ∙ (sym (then_ok p (probe_put v (put_by (item (get_or ws i 0)) place)) _ a) ∙ here h)
+      rw q (sym (then_ok p (probe_put v (put_by (item (get_or ws i 0)) place)) _ a) ∙ here h)
 
   pub probe_stop : (e : Refusal) → i < length ws → Err e ≡ answer p (probe_put v (put_by (item (get_or ws i 0)) place)) → Err e ≡ answer p (probe_all v (puts ws))
   probe_stop e h a = then_err p (probe_put v (put_by (item (get_or ws i 0)) place)) _ e a ∙ ap (answer p) (here h)
@@ -49,9 +49,7 @@ module _ (p : Places) (v : View) (ws : List ℕ) (i place : ℕ) (whole : probe_
 module _ (v u : View) (ws : List ℕ) (i place : ℕ) (whole : write_all v (puts_from place (drop i ws)) ≡ u) where
   pub write_more : (v' : View) (place' : ℕ) → i < length ws → place' ≡ place_after (item (get_or ws i 0)) place → v' ≡ write_put v (put_by (item (get_or ws i 0)) place) → write_all v' (puts_from place' (drop (i + 1) ws)) ≡ u
   write_more v' place' h q e =
-      ap (λ (x : ℕ). write_all v' (puts_from x (drop (i + 1) ws))) q
-      ∙ (ap (λ (x : View). write_all x (puts_from (place_after (item (get_or ws i 0)) place) (drop (i + 1) ws))) e
-      ∙ (sym (write_with v (put_by (item (get_or ws i 0)) place) (puts_from (place_after (item (get_or ws i 0)) place) (drop (i + 1) ws))) ∙ (sym (ap (write_all v) (puts_more ws i place h)) ∙ whole)))
+      rw (q, e) (sym (write_with v (put_by (item (get_or ws i 0)) place) (puts_from (place_after (item (get_or ws i 0)) place) (drop (i + 1) ws))) ∙ (sym (ap (write_all v) (puts_more ws i place h)) ∙ whole))
 
   pub write_end : length ws ≤ i → v ≡ u
   write_end h = sym (ap (write_all v) (puts_all ws i place h)) ∙ whole
@@ -92,7 +90,7 @@ answer_ok p (Err f) h = cc
 pub load_done : (p : Places) (v w : View) (tape : List ℕ) → Ok tt ≡ checked tape → Ok tt ≡ answer p (probe_all v (puts tape)) → w ≡ write_all v (puts tape) → loaded p v tape ≡ Ok w
 load_done p v w tape a b e =
     let q = answer_ok p (probe_all v (puts tape)) b in
-    ap (tape_told p v tape) (sym a) ∙ (ap (probes_told p v (puts tape)) q ∙ ap (λ (x : View). Ok x) (sym (e ∙ writes_put v (puts tape) q)))
+    rw (← a, q, e, writes_put v (puts tape) q) refl
 
 -- so a tape is put into the memory by writes
 by_probes : (p : Places) (v : View) (ps : List CellWord) (o : Result Unit Fault) → probe_all v ps ≡ o → probes_told p v ps o ≡ probes_written p v ps o

@@ -56,23 +56,21 @@ module _ {P : Type 0} (r : Rules P) (d : Snapshot P) where
 module _ {P : Type 0} (r : Rules P) (p q : Places) (d e : Snapshot P) (n k : ℕ) (x : Ended P) (told : q ≡ p) (h : k < n) (whole : runs_on r (n - k) k d ≡ x) (after : e ≡ turned r d) where
   pub more : Ok None ≡ told_turn q (course r d) → runs_on r (n - (k + 1)) (k + 1) e ≡ x
   unfolding run_case
-  more a = ap (runs_on r (n - (k + 1)) (k + 1)) after ∙ (sym (run_turn r d n k goes_on h (told_goes_on q (course r d) a)) ∙ whole)
+  more a = rw after (sym (run_turn r d n k goes_on h (told_goes_on q (course r d) a)) ∙ whole)
 
   pub stops_after : (s : Stop) → Ok (Some s) ≡ told_turn q (course r d) → ((record { done = k + 1; stop = s }) ≡ told_ran p x) × (e ≡ x.after)
   unfolding run_case
   stops_after s a =
       let y = told_last q (course r d) s a in
       let w : ended (turned r d) (k + 1) y.0 ≡ x = sym (run_turn r d n k (last y.0) h y.1) ∙ whole in
-      (ap (λ (z : Stop). record { done = k + 1; stop = z }) (y.2 ∙ ap (λ (z : Places). told_stop z y.0) told) ∙ ap (told_ran p) w, after ∙ ap (λ (z : Ended P). z.after) w)
+      (ap (λ (z : Stop). record { done = k + 1; stop = z }) (y.2 ∙ ap (λ (z : Places). told_stop z y.0) told) ∙ ap (told_ran p) w, rw (← w) after)
 
   pub stops_before : (s : Stop) → Err s ≡ told_turn q (course r d) → ((record { done = k; stop = s }) ≡ told_ran p x) × (e ≡ x.after)
   unfolding run_case
   stops_before s a =
       let y = told_none q (course r d) s a in
       let w : ended (turned r d) k y.0 ≡ x = sym (run_turn r d n k (none y.0) h y.1) ∙ whole in
-      (ap (λ (z : Stop). record { done = k; stop = z }) (y.2 ∙ ap (λ (z : Places). told_stop z y.0) told) ∙ ap (told_ran p) w, after ∙ ap (λ (z : Ended P). z.after) w)
+      (ap (λ (z : Stop). record { done = k; stop = z }) (y.2 ∙ ap (λ (z : Places). told_stop z y.0) told) ∙ ap (told_ran p) w, rw (← w) after)
 
   pub one_more : (m : ℕ) → d.count + (n - k) ≤ m → e.count + (n - (k + 1)) ≤ m
-  one_more m b =
-      let f : e.count ≡ (turned r d).count = ap (λ (v : Snapshot P). v.count) after in
-      omega (arith, turned_count r d)
+  one_more m b = rw after (omega (arith, turned_count r d))
