@@ -1,15 +1,14 @@
-use Rattle.std.proofs.Common.{◌≡◌, ℕ, zero, suc, ◌+◌, ◌-◌, ◌*◌, ◌<◌, ◌≤◌, Bool, true, false, cond, ltb, Ok, Err, sym, refl, ap, ◌∙◌, subst, add-zero, suc-mul, zero-mul, arith}
+use Rattle.std.proofs.Common.{◌≡◌, ℕ, zero, suc, ◌+◌, ◌-◌, ◌*◌, ◌<◌, ◌≤◌, true, false, ltb, Ok, sym, refl, ap, ◌∙◌, add-zero, suc-mul, zero-mul, arith}
 use Rattle.std.proofs.lemmas.Bool.{le-ltb}
-use Rattle.refusal.specs.declared.Cause.TheVariants.{RunTooLong, CountTooHigh}
 use Rattle.processor.specs.Views.{Places}
 use Rattle.processor.specs.Rules.{Rules, State}
 use Rattle.session.specs.declared.answers.Stop.TheVariants as stop
-use Rattle.session.specs.Snapshots.{Snapshot, rule}
+use Rattle.session.specs.Snapshots.{Snapshot}
 use Rattle.session.specs.Runs.{Ending, counted, halted, at_break, full, refused, told_stop}
 use Rattle.session_log.specs.declared.line.Call.TheVariants.{Run, Forget}
 use Rattle.session_log.specs.Replies.{ran, told_line}
 use Rattle.session_log.specs.Serving.{serves}
-use Rattle.session_log.specs.Plain.{Plain, count, fresh, PlainRan, plain_ran, plain_run, PlainServed, replied, plain_call}
+use Rattle.session_log.specs.Plain.{Plain, count, fresh, PlainRan, plain_run, PlainServed, replied, plain_call}
 use Rattle.session_log.specs.Stands.{Stands}
 use Rattle.session_log.proofs.Stood.{answered}
 use Rattle.long_run.specs.Rounds.{stop_of, Turned, one_round, goes_on, rounds}
@@ -82,9 +81,8 @@ module _ {P : Type 0} (r : Rules P) (p : Places) (w : State P) (j m : ℕ) (smal
         let a : rounds r p m (suc n) d ≡ rounds r p m n (one_round r p m d).after = by_round r p m (suc n) d true (omega arith) (ap goes_on (o.0 ∙ ap (told_stop p) q)) ∙ ap (λ (u : ℕ). rounds r p m u (one_round r p m d).after) (omega arith) in
         let t' = tally r j m 0 s in
         let f : 0 + (x.done + c) ≡ x.plain.depth + c = omega (arith, t'.depth) in
-        let F : ℕ → PlainRan P = λ i. plain_run r l (t - m) (x.done + c) (record { last = x.plain.last; past = x.plain.past; depth = i }) in
         let g = plain_run r l (t - m) (x.done + c) (deeper r (x.done + c) (emptied x.plain)) in
-        let b : g ≡ plain_run r l t c (deeper r c s) = ap F f ∙ sym (e ∙ ap (by_ending (t - m) (deeper_ran r c x)) q) in
+        let b : g ≡ plain_run r l t c (deeper r c s) = rw f (sym (e ∙ ap (by_ending (t - m) (deeper_ran r c x)) q)) in
         rw (← b, a) rest
 
     module _ (enough : m ≤ j) (bound : l ≤ 1000000) where

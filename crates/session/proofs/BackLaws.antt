@@ -8,7 +8,6 @@ use Rattle.refusal.specs.declared.Refusal.{Refusal}
 use Rattle.shelf.specs.Slots.{has_last, last_record}
 use Rattle.processor.specs.Views.{Fault, Places, told}
 use Rattle.processor.specs.Rules.{Moved}
-use Rattle.session.specs.declared.answers.Taken.{Taken}
 use Rattle.session.specs.declared.entry.Entry.{Entry}
 use Rattle.session.specs.Snapshots.{Snapshot}
 use Rattle.session.specs.Trials.{restored}

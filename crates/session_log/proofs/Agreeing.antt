@@ -1,10 +1,10 @@
-use Rattle.std.proofs.Common.{◌≡◌, ℕ, zero, suc, ◌<◌, Bool, true, false, cond, ltb, List, [], ◌∷◌, length, get_or, IfOk, None, Ok, Err, Option, Result, sym, refl, ap, ◌∙◌, subst, arith}
+use Rattle.std.proofs.Common.{◌≡◌, ℕ, zero, suc, ◌<◌, Bool, true, false, cond, ltb, List, [], ◌∷◌, length, get_or, IfOk, None, Ok, Err, Result, sym, refl, ap, ◌∙◌, arith}
 use mathlib.Core.Path.{fun_ext}
 use Rattle.std.proofs.lemmas.Bool.{ltb-true}
 use Rattle.refusal.specs.declared.Refusal.{Refusal}
 use Rattle.stores.specs.Cells as store
 use Rattle.processor.specs.declared.Side.TheVariants.{Memory, Screen}
-use Rattle.processor.specs.Views.{Cells, View, view, Fault, absent, closed, unassigned, Places, told, cell, cells, keys}
+use Rattle.processor.specs.Views.{View, Fault, absent, closed, unassigned, Places, told, cell, cells, keys}
 use Rattle.processor.specs.Rules.{Rules, State, state}
 use Rattle.tape.specs.declared.cursor.CellWord.{CellWord}
 use Rattle.tape.specs.Checks.{checked}

@@ -1,11 +1,9 @@
-use Rattle.std.proofs.Common.{◌≡◌, ℕ, zero, suc, ◌+◌, ◌-◌, ◌≤◌, Bool, true, false, cond, ltb, List, [], ◌∷◌, length, None, Ok, Err, Result, sym, refl, ap, ◌∙◌, subst, zero-add, arith}
+use Rattle.std.proofs.Common.{◌≡◌, ℕ, zero, suc, ◌+◌, ◌-◌, ◌≤◌, Bool, true, false, cond, ltb, List, [], ◌∷◌, length, None, Ok, Err, Result, sym, refl, ◌∙◌, zero-add, arith}
 use Rattle.std.proofs.lemmas.Bool.{ltb-true, ltb-false}
 use Rattle.refusal.specs.declared.Cause.TheVariants.{RunTooLong, CountTooHigh, BackTooFar}
 use Rattle.processor.specs.Views.{Places}
 use Rattle.processor.specs.Rules.{Rules, State}
 use Rattle.session.specs.Snapshots.{Reason, rule}
-use Rattle.session.specs.Runs.{told_stop}
-use Rattle.session_log.specs.declared.line.Answer.TheVariants as answer
 use Rattle.session_log.specs.declared.line.Call.{Call}
 use Rattle.session_log.specs.declared.line.Call.TheVariants.{Run, Back, Forget, Look}
 use Rattle.session_log.specs.declared.line.Line.{Line}

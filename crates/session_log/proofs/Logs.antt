@@ -1,19 +1,19 @@
-use Rattle.std.proofs.Common.{◌≡◌, ℕ, ◌+◌, Bool, true, false, cond, ◌&&◌, ◌||◌, ltb, List, [], ◌∷◌, length, None, Ok, Err, Option, sym, refl, ap, ◌∙◌, subst, arith}
+use Rattle.std.proofs.Common.{◌≡◌, ℕ, ◌+◌, Bool, true, false, cond, ◌&&◌, ◌||◌, ltb, List, [], ◌∷◌, length, None, Ok, Err, refl, ap, ◌∙◌, arith}
 use Rattle.std.proofs.lemmas.Bool.{ltb-false, le-ltb, and_right}
 use Rattle.refusal.specs.declared.Cause.{Cause}
 use Rattle.refusal.specs.declared.Cause.TheVariants.{RunTooLong, CountTooHigh, BackTooFar}
-use Rattle.processor.specs.Views.{Fault, Places}
+use Rattle.processor.specs.Views.{Places}
 use Rattle.processor.specs.Rules.{Rules, State}
 use Rattle.session.specs.Snapshots.{Snapshot, rule}
 use Rattle.session.specs.Runs.{Ended, runs_on}
-use Rattle.session.specs.Backs.{newest, Gone, backs_on}
+use Rattle.session.specs.Backs.{Gone, backs_on}
 use Rattle.session_log.specs.declared.line.Call.{Call}
 use Rattle.session_log.specs.declared.line.Call.TheVariants.{Run, Back, Forget, Look}
 use Rattle.session_log.specs.declared.line.Line.{Line}
 use Rattle.session_log.specs.Replies.{ran, taken}
 use Rattle.session_log.specs.Serving.{Served, served, served_run, served_back, by_run, by_back, serves, line_by, log_after, log_lines}
 use Rattle.session_log.specs.Plain.{Plain, PlainRan, plain_run, drops, PlainServed, replied, plain_call, plain_after, plain_lines, filled}
-use Rattle.session_log.specs.Stands.{Stands, Undo, Follow}
+use Rattle.session_log.specs.Stands.{Stands}
 use Rattle.session_log.proofs.Simulates.{Tied, plain_of, RunSim, BackSim, sim_run, sim_back}
 
 module _ {P : Type 0} (r : Rules P) (w : State P) (j : ℕ) where
@@ -50,7 +50,7 @@ module _ {P : Type 0} (r : Rules P) (w : State P) (j : ℕ) where
       let g : ltb (length d.slots) d.used ≡ false = le-ltb (length d.slots) d.used (omega (arith, i.lent, i.within)) in
       let b : (ltb 0 n && ltb (length d.slots) d.used) ≡ false = and_right (ltb 0 n) (ltb (length d.slots) d.used) g in
       by_test d past i (ltb d.used n) (ltb 0 n && ltb (length d.slots) d.used) BackTooFar x (replied (drops n (plain_of d past)) (Ok (taken n None))) b (λ e. from_back n x (drops n (plain_of d past)) (sim_back r w j n d past (ltb-false d.used n e) i))
-  sim_call Forget d past i = (past, refl, record { kept = i.kept; lent = i.lent; within = omega arith; undo = tt; follow = i.follow })
+  sim_call Forget d past i = (past, refl, record { last = refl; kept = i.kept; depth = refl; lent = i.lent; within = omega arith; undo = tt; follow = i.follow })
   sim_call (Look s) d past i = (past, refl, i)
 
   -- the lines of a session's log are those of the plain session
@@ -79,8 +79,7 @@ module _ {P : Type 0} (r : Rules P) (w : State P) (j : ℕ) where
   stands_is d s i = rw (i.last, i.depth) refl
 
   pub stands_tied : (d : Snapshot P) (s : Plain P) → Stands r w j d s → Tied r w j d s.past
-  stands_tied d s i = record { kept = i.kept; lent = i.lent; within = i.within; undo = rw i.last i.undo; follow = rw i.last i.follow }
+  stands_tied d s i = rw (← stands_is d s i) i
 
   pub tied_stands : (d : Snapshot P) (s : Plain P) (past : List (State P)) → s ≡ plain_of d past → Tied r w j d past → Stands r w j d s
-  tied_stands d s past e i =
-      rw e (record { last = refl; kept = i.kept; depth = refl; lent = i.lent; within = i.within; undo = i.undo; follow = i.follow })
+  tied_stands d s past e i = rw e i

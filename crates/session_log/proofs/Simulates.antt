@@ -1,4 +1,4 @@
-use Rattle.std.proofs.Common.{◌≡◌, ℕ, zero, suc, ◌+◌, ◌-◌, ◌<◌, ◌≤◌, Bool, true, false, cond, ltb, List, [], ◌∷◌, length, get_or, take, set, Some, None, Ok, Err, Result, sym, refl, ap, ◌∙◌, subst, add-zero, zero-add, add-one, arith, length-set}
+use Rattle.std.proofs.Common.{◌≡◌, ℕ, zero, suc, ◌+◌, ◌-◌, ◌<◌, ◌≤◌, Bool, true, false, cond, ltb, List, [], ◌∷◌, length, get_or, take, Some, None, Ok, Err, Result, sym, refl, ap, ◌∙◌, subst, add-zero, zero-add, add-one, arith, length-set}
 use Rattle.std.proofs.lemmas.List.{length-reverse, length-take-le}
 use Rattle.std.proofs.lemmas.Bool.{ltb-true}
 use Rattle.processor.specs.declared.Mark.{Mark}
@@ -12,20 +12,16 @@ use Rattle.session.specs.Runs.{halted, full, is_halted, Course, goes_on, last, n
 use Rattle.session.specs.Backs.{newest, undone, Gone, gone, takes}
 use Rattle.session.proofs.BackLaws.{newest_next, newest_set}
 use Rattle.session_log.specs.Plain.{Plain, drops, PlainRan, plain_ran, plain_run}
-use Rattle.session_log.specs.Stands.{Undo, Follow}
+use Rattle.session_log.specs.Stands.{Stands, Undo}
 use Rattle.session_log.proofs.Turns.{marked, moved, tested}
 use Rattle.session_log.proofs.Undoing.{entry_undoes}
 
--- a session and the states before its own
-pub record Tied {P : Type 0} (r : Rules P) (w : State P) (j : ℕ) (d : Snapshot P) (past : List (State P)) : Type 0 where
-  pub kept : d.count ≡ length past
-  pub lent : length d.slots ≡ j
-  pub within : d.used ≤ j
-  pub undo : Undo (newest d.used d.slots) d.state past
-  pub follow : Follow r w d.state past
-
 abbrev pub plain_of : {P : Type 0} → Snapshot P → List (State P) → Plain P
 plain_of d past = record { last = d.state; past = past; depth = d.used }
+
+-- a session stands as the plain session of its own state and the states before it
+abbrev pub Tied : {P : Type 0} → Rules P → State P → ℕ → Snapshot P → List (State P) → Type 0
+Tied r w j d past = Stands r w j d (plain_of d past)
 
 module _ {P : Type 0} (r : Rules P) (w : State P) (j : ℕ) where
   -- an instruction done and noted
@@ -35,7 +31,9 @@ module _ {P : Type 0} (r : Rules P) (w : State P) (j : ℕ) where
       let x : Entry P = record { before = d.state.processor; undo = m.undo } in
       let s : d.used < length d.slots = omega (arith, i.lent) in
       record {
+        last = refl;
         kept = omega (arith, i.kept);
+        depth = refl;
         lent = length-set d.slots d.used x ∙ i.lent;
         within = omega arith;
         undo = rw (add-one d.used, newest_set d.used d.slots x s) (entry_undoes r d.state m e, i.undo);
@@ -88,7 +86,9 @@ module _ {P : Type 0} (r : Rules P) (w : State P) (j : ℕ) where
       let b : es ≡ newest (d.used - 1) d.slots = cc in (
         b,
         record {
+          last = refl;
           kept = omega (arith, i.kept);
+          depth = refl;
           lent = i.lent;
           within = omega (arith, i.within);
           undo = rw (← b, z) o;

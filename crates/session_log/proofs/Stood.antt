@@ -1,4 +1,4 @@
-use Rattle.std.proofs.Common.{◌≡◌, ℕ, ◌≤◌, List, [], ◌∷◌, length, take, Ok, Err, Result, sym, refl, ap, ◌∙◌, subst, arith, MatchResult}
+use Rattle.std.proofs.Common.{◌≡◌, ℕ, ◌≤◌, List, [], ◌∷◌, length, take, Ok, Err, Result, sym, refl, ap, ◌∙◌, arith, MatchResult}
 use Rattle.std.proofs.lemmas.List.{length-reverse, length-take-le}
 use Rattle.refusal.specs.declared.Refusal.{Refusal}
 use Rattle.processor.specs.Views.{View, Fault, Places}
@@ -16,11 +16,10 @@ use Rattle.session_log.specs.declared.line.Call.{Call}
 use Rattle.session_log.specs.declared.line.Line.{Line}
 use Rattle.session_log.specs.Replies.{told_line}
 use Rattle.session_log.specs.Serving.{serves, log_after, log_lines}
-use Rattle.session_log.specs.Plain.{Plain, count, fresh, PlainServed, plain_call, plain_after, plain_lines, after}
+use Rattle.session_log.specs.Plain.{Plain, fresh, PlainServed, plain_call, plain_after, plain_lines, after}
 use Rattle.session_log.specs.Stands.{Stands, Undo}
-use Rattle.session_log.specs.Kept.{LogKept}
 use Rattle.session_log.specs.Logs.{Answered, Logged, opened, opening_answer}
-use Rattle.session_log.proofs.Simulates.{Tied, plain_of}
+use Rattle.session_log.proofs.Simulates.{plain_of}
 use Rattle.session_log.proofs.Logs.{sim_call, sim_log, stands_is, stands_tied, tied_stands}
 use Rattle.session_log.proofs.Keeps.{follow_after}
 use Rattle.session_log.proofs.KeptLogs.{Sound, kept_log}
