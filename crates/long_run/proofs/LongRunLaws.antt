@@ -1,4 +1,4 @@
-use Rattle.std.proofs.Common.{◌≡◌, ℕ, Bool, true, false, cond, ltb, Ok, refl, subst, arith}
+use Rattle.std.proofs.Common.{◌≡◌, ℕ, Bool, true, false, cond, ltb, Ok, refl, arith}
 use Rattle.std.proofs.lemmas.Bool.{ltb-true, ltb-false}
 use Rattle.processor.specs.Views.{Places}
 use Rattle.processor.specs.Rules.{Rules, State}
@@ -36,7 +36,7 @@ module _ {P : Type 0} (r : Rules P) (j : ℕ) (w : State P) where
       let c : count x.plain ≡ x.done = omega (arith, f.1, f.2) in
       let b : after r (count x.plain) w ≡ Ok x.plain.last = follow_after r w x.plain.last x.plain.past (follow_run r j w n 0 (fresh w) refl) in
       let e = ends r j w w 0 0 n f.0 x.ending refl f.4 in
-      (subst (λ (k : ℕ). after r k w ≡ Ok x.plain.last) c b, subst (λ (k : ℕ). Ends r j w 0 0 n k x.ending) a e)
+      (rw (← c) b, rw (← a) e)
 
 pub ran_out : (p : Places) (j : ℕ) (w : State Machine) → RanOut p j w (reported p (long_run machine_rules j w)) (long_run machine_rules j w).plain.last.view
 unfolding long_run

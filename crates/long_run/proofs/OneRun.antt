@@ -1,15 +1,14 @@
-use Rattle.std.proofs.Common.{◌≡◌, ℕ, zero, suc, ◌+◌, ◌-◌, ◌*◌, ◌<◌, ◌≤◌, Bool, true, false, cond, ltb, Ok, Err, sym, refl, ap, ◌∙◌, subst, add-zero, suc-mul, zero-mul, arith}
+use Rattle.std.proofs.Common.{◌≡◌, ℕ, zero, suc, ◌+◌, ◌-◌, ◌*◌, ◌<◌, ◌≤◌, true, false, ltb, Ok, sym, refl, ap, ◌∙◌, add-zero, suc-mul, zero-mul, arith}
 use Rattle.std.proofs.lemmas.Bool.{le-ltb}
-use Rattle.refusal.specs.declared.Cause.TheVariants.{RunTooLong, CountTooHigh}
 use Rattle.processor.specs.Views.{Places}
 use Rattle.processor.specs.Rules.{Rules, State}
 use Rattle.session.specs.declared.answers.Stop.TheVariants as stop
-use Rattle.session.specs.Snapshots.{Snapshot, rule}
+use Rattle.session.specs.Snapshots.{Snapshot}
 use Rattle.session.specs.Runs.{Ending, counted, halted, at_break, full, refused, told_stop}
 use Rattle.session_log.specs.declared.line.Call.TheVariants.{Run, Forget}
 use Rattle.session_log.specs.Replies.{ran, told_line}
 use Rattle.session_log.specs.Serving.{serves}
-use Rattle.session_log.specs.Plain.{Plain, count, fresh, PlainRan, plain_ran, plain_run, PlainServed, replied, plain_call}
+use Rattle.session_log.specs.Plain.{Plain, count, fresh, PlainRan, plain_run, PlainServed, replied, plain_call}
 use Rattle.session_log.specs.Stands.{Stands}
 use Rattle.session_log.proofs.Stood.{answered}
 use Rattle.long_run.specs.Rounds.{stop_of, Turned, one_round, goes_on, rounds}
@@ -24,11 +23,9 @@ module _ {P : Type 0} (r : Rules P) (p : Places) (w : State P) (j m : ℕ) (smal
   run_accepted : (s : Plain P) → count s + m ≤ 4000000000 → let x = plain_run r j m 0 s in plain_call r j (Run m) s ≡ replied x.plain (Ok (ran x.done x.ending))
   run_accepted s h =
       let x = plain_run r j m 0 s in
-      let y = replied x.plain (Ok (ran x.done x.ending)) in
       let a : ltb 1000000 m ≡ false = le-ltb 1000000 m small in
       let b : ltb 4000000000 (count s + m) ≡ false = le-ltb 4000000000 (count s + m) h in
-      ap (λ (z : Bool). cond z (replied s (Err (rule RunTooLong))) (cond (ltb 4000000000 (count s + m)) (replied s (Err (rule CountTooHigh))) y)) a
-      ∙ ap (λ (z : Bool). cond z (replied s (Err (rule CountTooHigh))) y) b
+      rw (a, b) refl
 
   -- one round on a session that stands as a plain session
   abbrev RoundStands : Snapshot P → Plain P → Type 0
@@ -40,7 +37,7 @@ module _ {P : Type 0} (r : Rules P) (p : Places) (w : State P) (j m : ℕ) (smal
       let c = run_accepted s h in
       let a = answered r p w j (Run m) d _ s _ i refl refl in
       let b = (serves r (Run m) d).after in
-      let t : Stands r w j b x.plain = subst (λ (z : PlainServed P). Stands r w j b z.plain) c a.stands in
+      let t : Stands r w j b x.plain = rw c at a.stands in
       let f = answered r p w j Forget b _ x.plain _ t refl refl in
       (ap stop_of a.answer ∙ ap (λ (z : PlainServed P). stop_of (told_line p z.reply)) c, f.stands)
 
@@ -73,7 +70,7 @@ module _ {P : Type 0} (r : Rules P) (p : Places) (w : State P) (j m : ℕ) (smal
         let t' = tally r j m 0 s in
         let n' : y.after.count ≡ x.done + c = o.1.kept ∙ omega (arith, t'.states) in
         let z : Whole y (deeper_ran r c x) = (o.0, n', o.1.last) in
-        subst (λ (v : PlainRan P). Whole (rounds r p m n d) v) (sym stays) (subst (λ (u : Turned P). Whole u (deeper_ran r c x)) (sym a) z)
+        rw (stays, a) z
 
     -- a round that goes on
     next_round : (n t c : ℕ) (d : Snapshot P) (s : Plain P) → Stands r w j d s → s.depth ≡ 0 → count s ≡ c → count s + m ≤ 4000000000 → (plain_run r j m 0 s).ending ≡ counted → Split t c s
@@ -84,14 +81,21 @@ module _ {P : Type 0} (r : Rules P) (p : Places) (w : State P) (j m : ℕ) (smal
         let a : rounds r p m (suc n) d ≡ rounds r p m n (one_round r p m d).after = by_round r p m (suc n) d true (omega arith) (ap goes_on (o.0 ∙ ap (told_stop p) q)) ∙ ap (λ (u : ℕ). rounds r p m u (one_round r p m d).after) (omega arith) in
         let t' = tally r j m 0 s in
         let f : 0 + (x.done + c) ≡ x.plain.depth + c = omega (arith, t'.depth) in
-        let F : ℕ → PlainRan P = λ i. plain_run r l (t - m) (x.done + c) (record { last = x.plain.last; past = x.plain.past; depth = i }) in
         let g = plain_run r l (t - m) (x.done + c) (deeper r (x.done + c) (emptied x.plain)) in
-        let b : g ≡ plain_run r l t c (deeper r c s) = ap F f ∙ sym (e ∙ ap (by_ending (t - m) (deeper_ran r c x)) q) in
-        subst (λ (v : PlainRan P). Whole (rounds r p m (suc n) d) v) b (subst (λ (u : Turned P). Whole u g) (sym a) rest)
+        let b : g ≡ plain_run r l t c (deeper r c s) = rw f (sym (e ∙ ap (by_ending (t - m) (deeper_ran r c x)) q)) in
+        rw (← b, a) rest
 
     module _ (enough : m ≤ j) (bound : l ≤ 1000000) where
       abbrev Rounds : ℕ → Type 0
       Rounds n = (t c : ℕ) (d : Snapshot P) (s : Plain P) → Stands r w j d s → s.depth ≡ 0 → count s ≡ c → t ≡ n * m → c + t ≤ l → Whole (rounds r p m n d) (plain_run r l t c (deeper r c s))
+
+      -- where the first round ends the rounds
+      ended_first : (n t c : ℕ) (d : Snapshot P) (s : Plain P) → Stands r w j d s → s.depth ≡ 0 → count s ≡ c → t ≡ suc n * m → c + t ≤ l → (e : Ending) → (plain_run r j m 0 s).ending ≡ e → goes_on (told_stop p e) ≡ false
+          → by_ending (t - m) (deeper_ran r c (plain_run r j m 0 s)) e ≡ deeper_ran r c (plain_run r j m 0 s) → Whole (rounds r p m (suc n) d) (plain_run r l t c (deeper r c s))
+      ended_first n t c d s i z k q v e a g b =
+          let f : suc n * m ≡ n * m + m = suc-mul n m in
+          let u = split t c s enough z (omega (arith, q, f)) v in
+          last_round (suc n) t c d s i k (omega (arith, q, f)) (omega arith) e a g (u ∙ (ap (by_ending (t - m) (deeper_ran r c (plain_run r j m 0 s))) a ∙ b))
 
       by_first : (n t c : ℕ) (d : Snapshot P) (s : Plain P) → Stands r w j d s → s.depth ≡ 0 → count s ≡ c → t ≡ suc n * m → c + t ≤ l → Rounds n → (e : Ending) → (plain_run r j m 0 s).ending ≡ e → Whole (rounds r p m (suc n) d) (plain_run r l t c (deeper r c s))
       by_first n t c d s i z k q v rest counted e =
@@ -101,37 +105,22 @@ module _ {P : Type 0} (r : Rules P) (p : Places) (w : State P) (j m : ℕ) (smal
           let u = split t c s enough z (omega (arith, q, f)) v in
           let o = round_stands d s i (omega (arith, q, f)) in
           next_round n t c d s i z k (omega (arith, q, f)) e u (rest (t - m) (x.done + c) (one_round r p m d).after (emptied x.plain) o.1 refl (omega (arith, t'.states)) (omega (arith, q, f)) (omega (arith, q, f, t'.all e)))
-      by_first n t c d s i z k q v rest halted e =
-          let f : suc n * m ≡ n * m + m = suc-mul n m in
-          let u = split t c s enough z (omega (arith, q, f)) v in
-          last_round (suc n) t c d s i k (omega (arith, q, f)) (omega arith) halted e refl (u ∙ ap (by_ending (t - m) (deeper_ran r c (plain_run r j m 0 s))) e)
-      by_first n t c d s i z k q v rest at_break e =
-          let f : suc n * m ≡ n * m + m = suc-mul n m in
-          let u = split t c s enough z (omega (arith, q, f)) v in
-          last_round (suc n) t c d s i k (omega (arith, q, f)) (omega arith) at_break e refl (u ∙ ap (by_ending (t - m) (deeper_ran r c (plain_run r j m 0 s))) e)
-      by_first n t c d s i z k q v rest full e =
-          let f : suc n * m ≡ n * m + m = suc-mul n m in
-          let u = split t c s enough z (omega (arith, q, f)) v in
-          last_round (suc n) t c d s i k (omega (arith, q, f)) (omega arith) full e refl (u ∙ ap (by_ending (t - m) (deeper_ran r c (plain_run r j m 0 s))) e)
-      by_first n t c d s i z k q v rest (refused g) e =
-          let f : suc n * m ≡ n * m + m = suc-mul n m in
-          let u = split t c s enough z (omega (arith, q, f)) v in
-          last_round (suc n) t c d s i k (omega (arith, q, f)) (omega arith) (refused g) e refl (u ∙ ap (by_ending (t - m) (deeper_ran r c (plain_run r j m 0 s))) e)
+      by_first n t c d s i z k q v rest halted e = ended_first n t c d s i z k q v halted e refl refl
+      by_first n t c d s i z k q v rest at_break e = ended_first n t c d s i z k q v at_break e refl refl
+      by_first n t c d s i z k q v rest full e = ended_first n t c d s i z k q v full e refl refl
+      by_first n t c d s i z k q v rest (refused g) e = ended_first n t c d s i z k q v (refused g) e refl refl
 
       pub rounds_run : (n : ℕ) → Rounds n
       rounds_run zero t c d s i z k q v =
           let f : t ≡ 0 = q ∙ zero-mul m in
           let x : Whole (record { after = d; stop = stop.CountReached }) (plain_run r l 0 c (deeper r c s)) = (refl, i.kept ∙ k, i.last) in
-          subst (λ (t : ℕ). Whole (rounds r p m 0 d) (plain_run r l t c (deeper r c s))) (sym f) (subst (λ (u : Turned P). Whole u (plain_run r l 0 c (deeper r c s))) (sym (rounds_none r p m d)) x)
+          rw (f, rounds_none r p m d) x
       rounds_run (suc n) t c d s i z k q v = by_first n t c d s i z k q v (rounds_run n) (plain_run r j m 0 s).ending refl
 
   -- a journal that is too short for a round
   module _ (short : j < m) where
     deeper_none : (x : PlainRan P) → deeper_ran r 0 x ≡ x
-    deeper_none x =
-        let F : ℕ → PlainRan P = λ i. plain_ran (record { last = x.plain.last; past = x.plain.past; depth = i }) (x.done + 0) x.ending in
-        let G : ℕ → PlainRan P = λ i. plain_ran x.plain i x.ending in
-        ap F (add-zero x.plain.depth) ∙ ap G (add-zero x.done)
+    deeper_none x = rw (add-zero x.plain.depth, add-zero x.done) refl
 
     by_short : (n t : ℕ) (d : Snapshot P) → Stands r w j d (fresh w) → 0 < n → m ≤ t → (e : Ending) → (plain_run r j m 0 (fresh w)).ending ≡ e → (plain_run r j t 0 (fresh w) ≡ by_ending j (t - m) (plain_run r j m 0 (fresh w)) e) → Whole (rounds r p m n d) (plain_run r j t 0 (fresh w))
     by_short n t d i h u counted q v =

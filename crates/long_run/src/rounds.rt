@@ -6,7 +6,7 @@ ghost use Rattle.session_log.specs.Logs.{opening, opened};
 ghost use Rattle.long_run.specs.LongRuns.{long_run, reported, report_answer, view_then, RanOut};
 ghost use Rattle.session.specs.Snapshots.{snapshot};
 ghost use Rattle.icmc.specs.Steps.{machine_rules};
-ghost use Rattle.long_run.specs.Rounds.{stop_of, one_round, goes_on, rounds};
+ghost use Rattle.long_run.specs.Rounds.{stop_of, one_round, rounds};
 
 use crate::report::Report;
 use icmc::machine::Machine;
@@ -15,17 +15,18 @@ use refusal::Refusal;
 use session::answers::Stop;
 use session::entry::Entry;
 use session::state::Session;
-use session_log::line::{Answer, Call, Line};
-use session_log::log::{carry_on, replay};
+use session_log::line::{Answer, Call};
+use session_log::log::replay;
+use session_log::serve::serve;
 
-// The stop on a line that a run is asked for on.
+// The stop that a run answers.
 fn stop_of(answer: Result<Answer, Refusal>) -> Stop
     ensures { result ≡ stop_of answer }
 {
     match answer {
         Ok(Answer::Ran(ran)) => ran.stop,
         Ok(_) => Stop::CountReached,
-        Err(refusal) => Stop::Refused(refusal),
+        Err(refusal) => Stop::from(refusal),
     }
 }
 
@@ -42,16 +43,9 @@ fn round<B: Bus>(
         (snapshot session.old (B.Bus.view bus.old) journal.old)).after }
     ensures places { B.Bus.places bus.new ≡ B.Bus.places bus.old }
 {
-    let mut lines = [Line::asking(Call::Run(1000)), Line::asking(Call::Forget)];
-    carry_on(session, bus, journal, &mut lines);
-    stop_of(lines[0].answer)
-}
-
-// Whether another round follows.
-fn goes_on(stop: Stop) -> bool
-    ensures { result ≡ goes_on stop }
-{
-    matches!(stop, Stop::CountReached)
+    let answer = serve(session, bus, journal, Call::Run(1000));
+    let _ = serve(session, bus, journal, Call::Forget);
+    stop_of(answer)
 }
 
 // At most 1,000 rounds, as long as each does its 1,000.
@@ -67,13 +61,11 @@ fn run_rounds<B: Bus>(
         (snapshot session.old (B.Bus.view bus.old) journal.old)).after }
     ensures places { B.Bus.places bus.new ≡ B.Bus.places bus.old }
 {
-    let mut left = 1000u16;
-    while left > 0 {
+    for _ in 0..1000u16 {
         let stop = round(session, bus, journal);
-        if !goes_on(stop) {
+        if stop != Stop::CountReached {
             return stop;
         }
-        left -= 1;
     }
     Stop::CountReached
 }

@@ -1,13 +1,13 @@
 use Rattle.std.proofs.Common.{◌≡◌, ℕ, suc, ◌+◌, ◌-◌, ◌<◌, ◌≤◌, Bool, true, cond, ltb, leb, List, [], ◌∷◌, reverse, length, get_or, take, set, Some, None, Ok, Err, Result, sym, refl, ap, ◌∙◌, arith, take-suc, take-suc-set}
 use mathlib.Core.List.{reverse-append}
 use Rattle.std.specs.List.{slice_get}
+use Rattle.std.specs.Option.{IsSome}
 use Rattle.std.proofs.lemmas.Option.{slice_get-get_or}
 use Rattle.std.proofs.lemmas.Bool.{lt-ltb, le-leb, and_from}
 use Rattle.refusal.specs.declared.Refusal.{Refusal}
 use Rattle.shelf.specs.Slots.{has_last, last_record}
 use Rattle.processor.specs.Views.{Fault, Places, told}
 use Rattle.processor.specs.Rules.{Moved}
-use Rattle.session.specs.declared.answers.Taken.{Taken}
 use Rattle.session.specs.declared.entry.Entry.{Entry}
 use Rattle.session.specs.Snapshots.{Snapshot}
 use Rattle.session.specs.Trials.{restored}
@@ -20,12 +20,11 @@ last_is u xs h k =
     let t : has_last u xs ≡ true = and_from (ltb 0 u) (leb u (length xs)) (lt-ltb 0 u h) (le-leb u (length xs) k) in
     ap (λ (b : Bool). cond b (slice_get xs (u - 1)) None) t
 
-last_none : {X : Type 0} (u : ℕ) (xs : List X) → 0 < u → u ≤ length xs → None ≡ last_record u xs → ⊥
-last_none {X} u [] h k e = omega arith
-last_none {X} u (x ∷ xs) h k e =
+pub last_some : {X : Type 0} (u : ℕ) (xs : List X) → 0 < u → u ≤ length xs → IsSome (last_record u xs)
+last_some {X} u [] h k = absurd (omega arith)
+last_some {X} u (x ∷ xs) h k =
     let s : u - 1 < length (x ∷ xs) = omega arith in
-    let n : None ≡ Some (get_or (x ∷ xs) (u - 1) x) = e ∙ (last_is u (x ∷ xs) h k ∙ slice_get-get_or (x ∷ xs) (u - 1) x s) in
-    let z : ◌≡◌ {A = ℕ} 0 1 = cc in omega arith
+    rw (last_is u (x ∷ xs) h k ∙ slice_get-get_or (x ∷ xs) (u - 1) x s) refl
 
 last_entry : {X : Type 0} (u : ℕ) (xs : List X) (x : X) → 0 < u → u ≤ length xs → Some x ≡ last_record u xs → x ≡ get_or xs (u - 1) x
 last_entry {X} u xs x h k e =
@@ -58,16 +57,16 @@ module _ {P : Type 0} (d : Snapshot P) (e : Entry P) (m k : ℕ) (some : 0 < d.u
 by_ok : {P : Type 0} (d : Snapshot P) (m k : ℕ) (q : Places) (x : Result (Moved P) Fault) → Ok tt ≡ noted_answer q x → take_case d m k x ≡ backs_on m (k + 1) (undone x d)
 unfolding take_case
 by_ok d m k q (Ok s) h = refl
-by_ok d m k q (Err f) h = absurd (let z : ◌≡◌ {A = ℕ} 0 1 = cc in omega arith)
+by_ok d m k q (Err f) h = cc
 
 by_err : {P : Type 0} (d : Snapshot P) (m k : ℕ) (q : Places) (x : Result (Moved P) Fault) (y : Refusal) → Err y ≡ noted_answer q x → (f : Fault) × (take_case d m k x ≡ gone (undone x d) k (Some f)) × (y ≡ told q f)
 unfolding take_case
-by_err d m k q (Ok s) y h = absurd (let z : ◌≡◌ {A = ℕ} 0 1 = cc in omega arith)
+by_err d m k q (Ok s) y h = cc
 by_err d m k q (Err f) y h = (f, refl, cc)
 
 ok_used : {P : Type 0} (q : Places) (x : Result (Moved P) Fault) (d : Snapshot P) → Ok tt ≡ noted_answer q x → (undone x d).used ≡ d.used - 1
 ok_used q (Ok s) d h = refl
-ok_used q (Err f) d h = absurd (let z : ◌≡◌ {A = ℕ} 0 1 = cc in omega arith)
+ok_used q (Err f) d h = cc
 
 -- as the loop of a back meets it: d before the turn, b after it
 module _ {P : Type 0} (p q : Places) (d b : Snapshot P) (e : Entry P) (n k : ℕ) (x : Gone P) (told_same : q ≡ p) (h : k < n) (few : n - k ≤ d.used) (there : d.used ≤ length d.slots) (is : Some e ≡ last_record d.used d.slots) (whole : backs_on (n - k) k d ≡ x) (after : b ≡ undone (restored d.state e) d) where
@@ -77,17 +76,13 @@ module _ {P : Type 0} (p q : Places) (d b : Snapshot P) (e : Entry P) (n k : ℕ
       sym (ap (λ (m : ℕ). backs_on m k d) s ∙ back_suc d e (n - (k + 1)) k (omega arith) there is) ∙ whole
 
   pub one_back : Ok tt ≡ noted_answer q (restored d.state e) → backs_on (n - (k + 1)) (k + 1) b ≡ x
-  one_back a = ap (backs_on (n - (k + 1)) (k + 1)) after ∙ (sym (by_ok d (n - (k + 1)) k q (restored d.state e) a) ∙ back_now)
+  one_back a = rw after (sym (by_ok d (n - (k + 1)) k q (restored d.state e) a) ∙ back_now)
 
   pub stops_back : (y : Refusal) → Err y ≡ noted_answer q (restored d.state e) → ((record { done = k; refusal = Some y }) ≡ told_taken p x) × (b ≡ x.after)
   stops_back y a =
       let z = by_err d (n - (k + 1)) k q (restored d.state e) y a in
-      let w : gone b k (Some z.0) ≡ x = ap (λ (v : Snapshot P). gone v k (Some z.0)) after ∙ (sym z.1 ∙ back_now) in
-      let f : Refusal → Taken = λ t. record { done = k; refusal = Some t } in
-      (ap f (z.2 ∙ ap (λ (t : Places). told t z.0) told_same) ∙ ap (told_taken p) w, ap (λ (v : Gone P). v.after) w)
+      let w : gone b k (Some z.0) ≡ x = rw after (sym z.1 ∙ back_now) in
+      (cc, rw (← w) refl)
 
   pub one_less : Ok tt ≡ noted_answer q (restored d.state e) → b.used ≡ d.used - 1
-  one_less a = ap (λ (v : Snapshot P). v.used) after ∙ ok_used q (restored d.state e) d a
-
-pub never_none : {P : Type 0} (d : Snapshot P) → 0 < d.used → d.used ≤ length d.slots → None ≡ last_record d.used d.slots → ⊥
-never_none d h k e = last_none d.used d.slots h k e
+  one_less a = rw after (ok_used q (restored d.state e) d a)

@@ -1,4 +1,4 @@
-use Rattle.std.proofs.Common.{◌≡◌, ℕ, ◌+◌, ◌<◌, ◌≤◌, Bool, true, false, cond, eqb, List, [], ◌∷◌, length, get_or, drop, Some, None, Ok, Err, Option, Result, sym, refl, ap, ◌∙◌, arith}
+use Rattle.std.proofs.Common.{◌≡◌, ℕ, ◌+◌, ◌<◌, ◌≤◌, Bool, true, false, cond, eqb, List, [], ◌∷◌, length, get_or, drop, Some, None, Ok, Err, Option, Result, sym, refl, ap, ◌∙◌}
 use Rattle.std.proofs.lemmas.List.{at_drop_more, at_drop_all}
 use Rattle.refusal.specs.declared.Refusal.{Refusal}
 use Rattle.processor.specs.declared.Side.TheVariants.{Memory}
@@ -26,10 +26,10 @@ write_with v (Some p) ps = refl
 
 then_ok : (p : Places) (o x : Result Unit Fault) → Ok tt ≡ answer p o → then o x ≡ x
 then_ok p (Ok u) x h = refl
-then_ok p (Err f) x h = absurd (let z : ◌≡◌ {A = ℕ} 0 1 = cc in omega arith)
+then_ok p (Err f) x h = cc
 
 then_err : (p : Places) (o x : Result Unit Fault) (e : Refusal) → Err e ≡ answer p o → Err e ≡ answer p (then o x)
-then_err p (Ok u) x e h = absurd (let z : ◌≡◌ {A = ℕ} 0 1 = cc in omega arith)
+then_err p (Ok u) x e h = cc
 then_err p (Err f) x e h = h
 
 module _ (p : Places) (v : View) (ws : List ℕ) (i place : ℕ) (whole : probe_all v (puts_from place (drop i ws)) ≡ probe_all v (puts ws)) where
@@ -38,7 +38,7 @@ module _ (p : Places) (v : View) (ws : List ℕ) (i place : ℕ) (whole : probe_
 
   pub probe_more : (place' : ℕ) → i < length ws → place' ≡ place_after (item (get_or ws i 0)) place → Ok tt ≡ answer p (probe_put v (put_by (item (get_or ws i 0)) place)) → probe_all v (puts_from place' (drop (i + 1) ws)) ≡ probe_all v (puts ws)
   probe_more place' h q a =
-      ap (λ (x : ℕ). probe_all v (puts_from x (drop (i + 1) ws))) q ∙ (sym (then_ok p (probe_put v (put_by (item (get_or ws i 0)) place)) _ a) ∙ here h)
+      rw q (sym (then_ok p (probe_put v (put_by (item (get_or ws i 0)) place)) _ a) ∙ here h)
 
   pub probe_stop : (e : Refusal) → i < length ws → Err e ≡ answer p (probe_put v (put_by (item (get_or ws i 0)) place)) → Err e ≡ answer p (probe_all v (puts ws))
   probe_stop e h a = then_err p (probe_put v (put_by (item (get_or ws i 0)) place)) _ e a ∙ ap (answer p) (here h)
@@ -49,9 +49,7 @@ module _ (p : Places) (v : View) (ws : List ℕ) (i place : ℕ) (whole : probe_
 module _ (v u : View) (ws : List ℕ) (i place : ℕ) (whole : write_all v (puts_from place (drop i ws)) ≡ u) where
   pub write_more : (v' : View) (place' : ℕ) → i < length ws → place' ≡ place_after (item (get_or ws i 0)) place → v' ≡ write_put v (put_by (item (get_or ws i 0)) place) → write_all v' (puts_from place' (drop (i + 1) ws)) ≡ u
   write_more v' place' h q e =
-      ap (λ (x : ℕ). write_all v' (puts_from x (drop (i + 1) ws))) q
-      ∙ (ap (λ (x : View). write_all x (puts_from (place_after (item (get_or ws i 0)) place) (drop (i + 1) ws))) e
-      ∙ (sym (write_with v (put_by (item (get_or ws i 0)) place) (puts_from (place_after (item (get_or ws i 0)) place) (drop (i + 1) ws))) ∙ (sym (ap (write_all v) (puts_more ws i place h)) ∙ whole)))
+      rw (q, e) (sym (write_with v (put_by (item (get_or ws i 0)) place) (puts_from (place_after (item (get_or ws i 0)) place) (drop (i + 1) ws))) ∙ (sym (ap (write_all v) (puts_more ws i place h)) ∙ whole))
 
   pub write_end : length ws ≤ i → v ≡ u
   write_end h = sym (ap (write_all v) (puts_all ws i place h)) ∙ whole
@@ -63,7 +61,7 @@ still_cell o false a w h = h
 
 first_ok : (o x : Result Unit Fault) → then o x ≡ Ok tt → (o ≡ Ok tt) × (x ≡ Ok tt)
 first_ok (Ok u) x h = (refl, h)
-first_ok (Err f) x h = absurd (let z : ◌≡◌ {A = ℕ} 0 1 = cc in omega arith)
+first_ok (Err f) x h = cc
 
 still_all : (v : View) (a w : ℕ) (ps : List CellWord) → probe_all v ps ≡ Ok tt → probe_all (put_into Memory v a w) ps ≡ Ok tt
 still_all v a w [] h = refl
@@ -74,7 +72,7 @@ still_all v a w (p ∷ ps) h =
 
 written_ok : (v : View) (a w : ℕ) (o : Result ℕ Fault) → probed o ≡ Ok tt → put_if o Memory v a w ≡ put_into Memory v a w
 written_ok v a w (Ok x) h = refl
-written_ok v a w (Err f) h = absurd (let z : ◌≡◌ {A = ℕ} 0 1 = cc in omega arith)
+written_ok v a w (Err f) h = cc
 
 -- where every probe is done, every write is
 pub writes_put : (v : View) (ps : List CellWord) → probe_all v ps ≡ Ok tt → write_all v ps ≡ put_all v ps
@@ -86,13 +84,13 @@ writes_put v (p ∷ ps) h =
 
 answer_ok : (p : Places) (o : Result Unit Fault) → Ok tt ≡ answer p o → o ≡ Ok tt
 answer_ok p (Ok u) h = refl
-answer_ok p (Err f) h = absurd (let z : ◌≡◌ {A = ℕ} 0 1 = cc in omega arith)
+answer_ok p (Err f) h = cc
 
 -- a tape that is accepted and whose addresses are all probed is put into the memory
 pub load_done : (p : Places) (v w : View) (tape : List ℕ) → Ok tt ≡ checked tape → Ok tt ≡ answer p (probe_all v (puts tape)) → w ≡ write_all v (puts tape) → loaded p v tape ≡ Ok w
 load_done p v w tape a b e =
     let q = answer_ok p (probe_all v (puts tape)) b in
-    ap (tape_told p v tape) (sym a) ∙ (ap (probes_told p v (puts tape)) q ∙ ap (λ (x : View). Ok x) (sym (e ∙ writes_put v (puts tape) q)))
+    rw (← a, q, e, writes_put v (puts tape) q) refl
 
 -- so a tape is put into the memory by writes
 by_probes : (p : Places) (v : View) (ps : List CellWord) (o : Result Unit Fault) → probe_all v ps ≡ o → probes_told p v ps o ≡ probes_written p v ps o

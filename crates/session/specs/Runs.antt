@@ -1,4 +1,4 @@
-use Rattle.std.specs.Prelude.{ℕ, zero, suc, ◌+◌, Bool, true, false, cond, length, Ok, Err, Result, nat_lt, slice_set}
+use Rattle.std.specs.Prelude.{ℕ, zero, suc, ◌+◌, Bool, true, false, cond, length, Some, None, Ok, Err, Option, Result, nat_lt, slice_set}
 use Rattle.refusal.specs.declared.Refusal.{Refusal}
 use Rattle.refusal.specs.declared.Cause.TheVariants.{RunTooLong, CountTooHigh}
 use Rattle.processor.specs.declared.Mark.{Mark}
@@ -8,8 +8,6 @@ use Rattle.processor.specs.Rules.{Rules, Moved}
 use Rattle.session.specs.declared.answers.Ran.{Ran}
 use Rattle.session.specs.declared.answers.Stop.{Stop}
 use Rattle.session.specs.declared.answers.Stop.TheVariants as stop
-use Rattle.session.specs.declared.runs.Turn.{Turn}
-use Rattle.session.specs.declared.runs.Turn.TheVariants as turn
 use Rattle.session.specs.Snapshots.{Snapshot, Reason, rule, told_reason}
 use Rattle.session.specs.Trials.{tried}
 
@@ -47,10 +45,11 @@ pub data Course : Type 0 where
   last : Ending → Course
   none : Ending → Course
 
-abbrev pub told_turn : Places → Course → Turn
-told_turn p goes_on = turn.GoesOn
-told_turn p (last e) = turn.Last (told_stop p e)
-told_turn p (none e) = turn.None (told_stop p e)
+-- the same as a turn tells it: where no instruction was done, the stop is an error
+abbrev pub told_turn : Places → Course → Result (Option Stop) Stop
+told_turn p goes_on = Ok None
+told_turn p (last e) = Ok (Some (told_stop p e))
+told_turn p (none e) = Err (told_stop p e)
 
 -- by the mark that an instruction leaves: a halted machine and a break stop the run
 abbrev pub by_mark : Mark → Course

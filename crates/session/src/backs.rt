@@ -47,24 +47,17 @@ impl<P: Processor> Session<P> {
             ≡ (backs_on count 0 (snapshot self.old (B.Bus.view bus.old) journal.now)).after }
         ensures places { B.Bus.places bus.new ≡ B.Bus.places bus.old }
     {
-        let mut done = 0;
-        while done < count {
-            let Some(entry) = self.journal.last(journal) else {
+        for done in 0..count {
+            let entry = self.journal.last(journal).unwrap();
+            if let Err(refusal) = self.retreat(bus, journal, entry) {
                 return Taken {
                     done,
-                    refusal: None,
-                };
-            };
-            match self.retreat(bus, journal, entry) {
-                Ok(()) => done += 1,
-                Err(refusal) => return Taken {
-                    done,
                     refusal: Some(refusal),
-                },
+                };
             }
         }
         Taken {
-            done,
+            done: count,
             refusal: None,
         }
     }

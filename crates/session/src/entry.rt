@@ -5,7 +5,7 @@ use processor::CellWrite;
 use processor::bus::Processor;
 
 // The processor before the instruction, and the word that the written cell had, if one was written.
-#[derive(Clone, Copy)]
+#[derive(Clone, Copy, Debug, PartialEq, Eq)]
 pub struct Entry<P> {
     pub(crate) before: P,
     pub(crate) undo: Option<CellWrite>,

@@ -10,7 +10,7 @@ use processor::bus::{Bus, Processor};
 use refusal::{Cause, Refusal};
 
 // What a look is at.
-#[derive(Clone, Copy)]
+#[derive(Clone, Copy, Debug, PartialEq, Eq)]
 pub enum Spot {
     Register(u16),
     Cell(Side, u16),
@@ -23,10 +23,10 @@ impl<P: Processor> Session<P> {
             (looked P.Processor.rules spot (state self.now.processor (B.Bus.view bus.now))) }
     {
         match spot {
-            Spot::Register(number) => match self.processor.register(number) {
-                Some(word) => Ok(word),
-                None => Err(Cause::NoSuchRegister.at(0)),
-            },
+            Spot::Register(number) => self
+                .processor
+                .register(number)
+                .ok_or(Cause::NoSuchRegister.at(0)),
             Spot::Cell(side, at) => bus.look(side, at),
         }
     }

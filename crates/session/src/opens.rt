@@ -20,10 +20,10 @@ fn probe_word<B: Bus>(bus: &B, cursor: &mut Cursor, word: u32) -> Result<(), Ref
         (probe_put (B.Bus.view bus.now) (put_by (item word) cursor.old.place)) }
     ensures after { cursor.new.place ≡ place_after (item word) cursor.old.place }
 {
-    match cursor.advance(word) {
-        Some(put) => bus.probe(Side::Memory, put.at),
-        None => Ok(()),
+    if let Some(put) = cursor.advance(word) {
+        bus.probe(Side::Memory, put.at)?;
     }
+    Ok(())
 }
 
 // Probes each address that a tape writes, in order.
@@ -32,10 +32,7 @@ fn probe_tape<B: Bus>(bus: &B, tape: &[u32]) -> Result<(), Refusal>
 {
     let mut cursor = Cursor::start();
     for word in tape {
-        match probe_word(bus, &mut cursor, *word) {
-            Ok(()) => {}
-            Err(refusal) => return Err(refusal),
-        }
+        probe_word(bus, &mut cursor, *word)?;
     }
     Ok(())
 }
@@ -64,6 +61,7 @@ fn write_tape<B: Bus>(bus: &mut B, tape: &[u32])
 }
 
 // A tape whose addresses are all probed is put into the memory by writes; a call of this does nothing.
+#[tactic(auto, using(crate::proofs::OpenLaws::loads_write))]
 fn loading_writes<B: Bus>(bus: &B, tape: &[u32])
     ensures { loaded (B.Bus.places bus.now) (B.Bus.view bus.now) tape.now
         ≡ tape_written (B.Bus.places bus.now) (B.Bus.view bus.now) tape.now (checked tape.now) }

@@ -14,14 +14,6 @@ use processor::Mark;
 use processor::bus::{Bus, Processor};
 use refusal::{Cause, Refusal};
 
-// One turn of a run: an instruction that goes on, the last one, or none.
-#[derive(Clone, Copy)]
-pub enum Turn {
-    GoesOn,
-    Last(Stop),
-    None(Stop),
-}
-
 impl<P: Processor> Session<P> {
     // The next instruction, with its entry in the journal's next slot.
     fn advance<B: Bus>(&mut self, bus: &mut B, journal: &mut [Entry<P>]) -> Result<(), Refusal>
@@ -41,8 +33,8 @@ impl<P: Processor> Session<P> {
         Ok(())
     }
 
-    // One turn of a run.
-    fn turn<B: Bus>(&mut self, bus: &mut B, journal: &mut [Entry<P>]) -> Turn
+    // One turn of a run: what stops the run before an instruction is an error; what stops it after one is the answer.
+    fn turn<B: Bus>(&mut self, bus: &mut B, journal: &mut [Entry<P>]) -> Result<Option<Stop>, Stop>
         requires few { self.old.count < 4000000000 }
         ensures answer { result ≡ told_turn (B.Bus.places bus.old)
             (course P.Processor.rules (snapshot self.old (B.Bus.view bus.old) journal.old)) }
@@ -50,20 +42,18 @@ impl<P: Processor> Session<P> {
             ≡ turned P.Processor.rules (snapshot self.old (B.Bus.view bus.old) journal.old) }
         ensures places { B.Bus.places bus.new ≡ B.Bus.places bus.old }
     {
-        if let Mark::Halted = self.processor.mark() {
-            return Turn::None(Stop::Halted);
+        if self.processor.mark() == Mark::Halted {
+            return Err(Stop::Halted);
         }
         if self.journal.len() >= journal.len() {
-            return Turn::None(Stop::JournalFull);
+            return Err(Stop::JournalFull);
         }
-        if let Err(refusal) = self.advance(bus, journal) {
-            return Turn::None(Stop::Refused(refusal));
-        }
-        match self.processor.mark() {
-            Mark::Ready => Turn::GoesOn,
-            Mark::AtBreak => Turn::Last(Stop::AtBreak),
-            Mark::Halted => Turn::Last(Stop::Halted),
-        }
+        self.advance(bus, journal)?;
+        Ok(match self.processor.mark() {
+            Mark::Ready => None,
+            Mark::AtBreak => Some(Stop::AtBreak),
+            Mark::Halted => Some(Stop::Halted),
+        })
     }
 }
 
@@ -77,19 +67,18 @@ impl<P: Processor> Session<P> {
             ≡ (runs_on P.Processor.rules count 0 (snapshot self.old (B.Bus.view bus.old) journal.old)).after }
         ensures places { B.Bus.places bus.new ≡ B.Bus.places bus.old }
     {
-        let mut done = 0;
-        while done < count {
+        for done in 0..count {
             match self.turn(bus, journal) {
-                Turn::GoesOn => done += 1,
-                Turn::Last(stop) => return Ran {
+                Ok(None) => {}
+                Ok(Some(stop)) => return Ran {
                     done: done + 1,
                     stop,
                 },
-                Turn::None(stop) => return Ran { done, stop },
+                Err(stop) => return Ran { done, stop },
             }
         }
         Ran {
-            done,
+            done: count,
             stop: Stop::CountReached,
         }
     }

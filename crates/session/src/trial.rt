@@ -11,11 +11,13 @@ use processor::step::{replace, step};
 use refusal::Refusal;
 
 // What the shut definitions stand for; a call of these does nothing.
+#[tactic(auto, unfolding(crate::specs::Trials::tried))]
 fn trying_steps<P: Processor, B: Bus>(processor: &P, bus: &B)
     ensures { tried P.Processor.rules (state processor.now (B.Bus.view bus.now))
         ≡ stepped P.Processor.rules (state processor.now (B.Bus.view bus.now)) }
 {}
 
+#[tactic(auto, unfolding(crate::specs::Trials::restored))]
 fn restoring_moves<P: Copy, B: Bus>(processor: &P, bus: &B, entry: Entry<P>)
     ensures { restored (state processor.now (B.Bus.view bus.now)) entry
         ≡ moved (B.Bus.view bus.now) entry.before entry.undo }

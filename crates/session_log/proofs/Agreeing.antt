@@ -1,10 +1,10 @@
-use Rattle.std.proofs.Common.{◌≡◌, ℕ, zero, suc, ◌<◌, Bool, true, false, cond, ltb, List, [], ◌∷◌, length, get_or, IfOk, None, Ok, Err, Option, Result, sym, refl, ap, ◌∙◌, subst, arith}
+use Rattle.std.proofs.Common.{◌≡◌, ℕ, zero, suc, ◌<◌, Bool, true, false, cond, ltb, List, [], ◌∷◌, length, get_or, IfOk, None, Ok, Err, Result, sym, refl, ap, ◌∙◌, arith}
 use mathlib.Core.Path.{fun_ext}
 use Rattle.std.proofs.lemmas.Bool.{ltb-true}
 use Rattle.refusal.specs.declared.Refusal.{Refusal}
 use Rattle.stores.specs.Cells as store
 use Rattle.processor.specs.declared.Side.TheVariants.{Memory, Screen}
-use Rattle.processor.specs.Views.{Cells, View, view, Fault, absent, closed, unassigned, Places, told, cell, cells, keys}
+use Rattle.processor.specs.Views.{View, Fault, absent, closed, unassigned, Places, told, cell, cells, keys}
 use Rattle.processor.specs.Rules.{Rules, State, state}
 use Rattle.tape.specs.declared.cursor.CellWord.{CellWord}
 use Rattle.tape.specs.Checks.{checked}
@@ -15,8 +15,8 @@ use Rattle.session.specs.Opens.{probe_all, probes_told, tape_told, loaded, load_
 use Rattle.session_log.specs.declared.line.Line.{Line}
 use Rattle.session_log.specs.Plain.{fresh, after}
 use Rattle.session_log.specs.Kept.{depth_after, PageLine, LogKept}
-use Rattle.session_log.specs.Logs.{Logged, opening_answer}
-use Rattle.session_log.specs.Alike.{AlikeCells, AlikeKeys, Alike, Stores, seen, SameState, Agree, Left, Agreed}
+use Rattle.session_log.specs.Logs.{Logged, opening, opening_answer}
+use Rattle.session_log.specs.Alike.{AlikeCells, AlikeKeys, Alike, Stores, seen, SameState, Agree, Left, LeftBy, Agreed, AlikeAgree}
 
 cond_same : {X : Type 0} (b : Bool) (x y z : X) → (b ≡ true → x ≡ y) → cond b x z ≡ cond b y z
 cond_same true x y z h = h refl
@@ -31,9 +31,10 @@ keys_same k l h = fun_ext (λ c. cond_same (ltb c 65536) (k c) (l c) None (λ e.
 -- alike stores are seen as one
 seen_same : (x y : Stores) → Alike x y → seen x ≡ seen y
 seen_same x y h =
-    ap (λ (m : Cells). view m (cells x.screen x.screen_open) (keys x.keys)) (cells_same x.memory y.memory x.memory_open y.memory_open h.memory)
-    ∙ (ap (λ (s : Cells). view (cells y.memory y.memory_open) s (keys x.keys)) (cells_same x.screen y.screen x.screen_open y.screen_open h.screen)
-    ∙ ap (λ (k : ℕ → Option ℕ). view (cells y.memory y.memory_open) (cells y.screen y.screen_open) k) (keys_same x.keys y.keys h.keys))
+    let m = cells_same x.memory y.memory x.memory_open y.memory_open h.memory in
+    let s = cells_same x.screen y.screen x.screen_open y.screen_open h.screen in
+    let k = keys_same x.keys y.keys h.keys in
+    cc
 
 -- refused alike, but for the place
 abbrev SameAnswer : Result Unit Refusal → Result Unit Refusal → Type 0
@@ -66,8 +67,6 @@ module _ {P : Type 0} (r : Rules P) where
   -- the page after equally many instructions from equal openings
   same_page : (w u : State P) (c d : ℕ) (s t : State P) → w ≡ u → c ≡ d → after r c w ≡ Ok s → after r d u ≡ Ok t → s ≡ t
   same_page w u c d s t e f a b =
-      let x : after r c w ≡ after r d u = ap (after r c) e ∙ ap (λ (n : ℕ). after r n u) f in
-      let y : ◌≡◌ {A = Result (State P) Fault} (Ok s) (Ok t) = sym a ∙ (x ∙ b) in
       cc
 
   same_line : (w u : State P) (x y : Line P) → w ≡ u → x.count ≡ y.count → PageLine r w x → PageLine r u y → SameState r w u x y
@@ -93,11 +92,14 @@ module _ {P : Type 0} (r : Rules P) where
     by_answers (Err s) (Ok t) e f g = e
     by_answers (Err s) (Err t) e f g = e
 
-    pub agreed : (a b : Result (Session P) Refusal) → opening_answer a ≡ load_answer (loaded p v tape) → opening_answer b ≡ load_answer (loaded q v' tape) → Log p w j ls x a → Log q u k ms y b → Agreed r w u x y a b
+    agreed : (a b : Result (Session P) Refusal) → opening_answer a ≡ load_answer (loaded p v tape) → opening_answer b ≡ load_answer (loaded q v' tape) → Log p w j ls x a → Log q u k ms y b → Agreed r w u x y a b
     agreed a b e f g h =
         let n : load_answer (loaded q v tape) ≡ opening_answer b = ap (λ (z : View). load_answer (loaded q z tape)) same ∙ sym f in
-        let s : SameAnswer (opening_answer a) (load_answer (loaded q v tape)) = subst (λ (z : Result Unit Refusal). SameAnswer z (load_answer (loaded q v tape))) (sym e) (tape_same p q v tape (checked tape)) in
-        by_answers a b (subst (λ (z : Result Unit Refusal). SameAnswer (opening_answer a) z) n s) g h
+        by_answers a b (rw (e, ← n) (tape_same p q v tape (checked tape))) g h
 
-pub seen_alike : (x y : Stores) → Alike x y → seen x ≡ seen y
-seen_alike x y h = seen_same x y h
+-- two logs agree where their stores are alike
+pub logs_agree : {P : Type 0} (r : Rules P) (tape : List ℕ) (stack j k : ℕ) (a b : Stores) (ls ms : List (Line P)) (x y : Left P) → LeftBy r tape stack j a ls x → LeftBy r tape stack k b ms y → AlikeAgree r tape stack a b x y
+logs_agree r tape stack j k a b ls ms x y f g h =
+    let s = seen_same a b h in
+    agreed r f.places g.places (seen a) (seen b) tape (opening r stack (seen a) tape) (opening r stack (seen b) tape) j k ls ms x y s (ap (λ (v : View). opening r stack v tape) s)
+    x.answer y.answer f.opened g.opened f.log g.log

@@ -16,16 +16,16 @@ abbrev Open : Bool → Bool → Bool → Bool → Bool → Option Ending → Typ
 Open own h b done room next = ((own && b) ≡ false) × (h ≡ false) × (done ≡ false) × (room ≡ true) × (next ≡ None)
 
 choose_none : (own h b done room : Bool) (next : Option Ending) → choose own h b done room next ≡ None → Open own h b done room next
-choose_none true true b done room next e = absurd (let z : ◌≡◌ {A = ℕ} 0 1 = cc in omega arith)
-choose_none true false true done room next e = absurd (let z : ◌≡◌ {A = ℕ} 0 1 = cc in omega arith)
-choose_none true false false true room next e = absurd (let z : ◌≡◌ {A = ℕ} 0 1 = cc in omega arith)
+choose_none true true b done room next e = cc
+choose_none true false true done room next e = cc
+choose_none true false false true room next e = cc
 choose_none true false false false true next e = (refl, refl, refl, refl, e)
-choose_none true false false false false next e = absurd (let z : ◌≡◌ {A = ℕ} 0 1 = cc in omega arith)
-choose_none false true b true room next e = absurd (let z : ◌≡◌ {A = ℕ} 0 1 = cc in omega arith)
-choose_none false true b false room next e = absurd (let z : ◌≡◌ {A = ℕ} 0 1 = cc in omega arith)
-choose_none false false b true room next e = absurd (let z : ◌≡◌ {A = ℕ} 0 1 = cc in omega arith)
+choose_none true false false false false next e = cc
+choose_none false true b true room next e = cc
+choose_none false true b false room next e = cc
+choose_none false false b true room next e = cc
 choose_none false false b false true next e = (refl, refl, refl, refl, e)
-choose_none false false b false false next e = absurd (let z : ◌≡◌ {A = ℕ} 0 1 = cc in omega arith)
+choose_none false false b false false next e = cc
 
 -- what holds a run up where its count is not reached
 data Held (own h b room : Bool) (next : Option Ending) (e : Ending) : Type 0 where
@@ -43,17 +43,17 @@ choose_some false false b true next e q = by_fault q
 choose_some false false b false next e q = by_room refl
 
 mark_halted : (m : Mark) → is_halted m ≡ true → m ≡ mark.Halted
-mark_halted mark.Ready h = absurd (let z : ◌≡◌ {A = ℕ} 0 1 = cc in omega arith)
-mark_halted mark.AtBreak h = absurd (let z : ◌≡◌ {A = ℕ} 0 1 = cc in omega arith)
+mark_halted mark.Ready h = cc
+mark_halted mark.AtBreak h = cc
 mark_halted mark.Halted h = refl
 
 mark_break : (m : Mark) → is_break m ≡ true → m ≡ mark.AtBreak
-mark_break mark.Ready h = absurd (let z : ◌≡◌ {A = ℕ} 0 1 = cc in omega arith)
+mark_break mark.Ready h = cc
 mark_break mark.AtBreak h = refl
-mark_break mark.Halted h = absurd (let z : ◌≡◌ {A = ℕ} 0 1 = cc in omega arith)
+mark_break mark.Halted h = cc
 
 next_fault : {P : Type 0} (o : Result (State P) Fault) (e : Ending) → by_next o ≡ Some e → (f : Fault) × (o ≡ Err f)
-next_fault (Ok v) e h = absurd (let z : ◌≡◌ {A = ℕ} 0 1 = cc in omega arith)
+next_fault (Ok v) e h = cc
 next_fault (Err f) e h = (f, refl)
 
 module _ {P : Type 0} (r : Rules P) (j d n i : ℕ) (u : State P) where
@@ -71,22 +71,22 @@ module _ {P : Type 0} (r : Rules P) (j d n i : ℕ) (u : State P) where
   none_met e (own_break l m) =
       let q = open_at e in
       let t : (ltb 0 i && b) ≡ true = and_from (ltb 0 i) b (lt-ltb 0 i l) (ap is_break m) in
-      let z : ◌≡◌ {A = ℕ} 0 1 = cc (sym q.0 ∙ t) in omega arith
+      cc (sym q.0 ∙ t)
   none_met e (halted_machine m) =
       let q = open_at e in
       let t : h ≡ true = ap is_halted m in
-      let z : ◌≡◌ {A = ℕ} 0 1 = cc (sym q.1 ∙ t) in omega arith
+      cc (sym q.1 ∙ t)
   none_met e (refused_next f m) =
       let q = open_at e in
       let t : by_next (instruction r u) ≡ Some (refused f) = ap by_next m in
-      let z : ◌≡◌ {A = ℕ} 0 1 = cc (sym q.4 ∙ t) in omega arith
+      cc (sym q.4 ∙ t)
   none_met e (full_journal l) = omega (arith, ltb-true (d + i) j (open_at e).3)
 
   -- what ends a run before its count is something that holds it up
   pub some_met : (e : Ending) → i < n → ending r j d n i u ≡ Some e → Met r j d i u
   some_met e l q =
       let f : eqb i n ≡ false = ne_eqb i n (λ x. omega arith) in
-      let k : choose (ltb 0 i) h b false (ltb (d + i) j) (by_next (instruction r u)) ≡ Some e = ap (λ (x : Bool). choose (ltb 0 i) h b x (ltb (d + i) j) (by_next (instruction r u))) (sym f) ∙ q in
+      let k : choose (ltb 0 i) h b false (ltb (d + i) j) (by_next (instruction r u)) ≡ Some e = rw f at q in
       met_by (choose_some (ltb 0 i) h b (ltb (d + i) j) (by_next (instruction r u)) e k)
     where
       met_by : Held (ltb 0 i) h b (ltb (d + i) j) (by_next (instruction r u)) e → Met r j d i u

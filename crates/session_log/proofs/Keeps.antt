@@ -5,10 +5,11 @@ use Rattle.processor.specs.declared.Mark.TheVariants as mark
 use Rattle.processor.specs.Views.{Fault}
 use Rattle.processor.specs.Rules.{Rules, State, instruction}
 use Rattle.session.specs.Runs.{Ending, counted, halted, at_break, full, refused, is_halted}
-use Rattle.session_log.specs.Plain.{Plain, count, push, Move, onto, held, by_instruction, PlainRan, plain_ran, plain_run, after, then_instruction}
+use Rattle.session_log.specs.Plain.{Plain, count, push, PlainRan, plain_ran, plain_run, after, then_instruction}
 use Rattle.session_log.specs.Stands.{Follow}
 use Rattle.session_log.specs.Kept.{by_next, ending, Met, Ends, RunKept, BackKept, ForgetKept, LookKept, CallKept, depth_after, PageLine, LogKept}
 use Rattle.session_log.specs.Kept as kept
+use Rattle.session_log.proofs.Turns.{marked, moved, tested}
 use Rattle.session_log.proofs.Endings.{choose, none_met, some_met, shift_own, shift_ready}
 
 module _ {P : Type 0} (r : Rules P) where
@@ -73,24 +74,13 @@ module _ {P : Type 0} (r : Rules P) where
     abbrev pub Far : ℕ → ℕ → Plain P → PlainRan P → Type 0
     Far n k s x = (m : ℕ) × (x.done ≡ k + m) × (count x.plain ≡ count s + m) × (x.plain.depth ≡ s.depth + m) × Goes s.last s.depth n m x.ending
 
-    abbrev marked : ℕ → ℕ → State P → Plain P → Mark → PlainRan P
-    marked n k v s m =
-        elim m [
-          | mark.Ready ↦ plain_run r j n (k + 1) (push v s)
-          | mark.AtBreak ↦ plain_ran (push v s) (k + 1) at_break
-          | mark.Halted ↦ plain_ran (push v s) (k + 1) halted
-        ]
-
-    abbrev moved : ℕ → ℕ → Plain P → Move P → PlainRan P
-    moved n k s m = elim m [ held e ↦ plain_ran s k e | onto v ↦ marked n k v s (r.mark v.processor) ]
-
     far_none : (n k : ℕ) (s : Plain P) (e : Ending) → ending r j s.depth n 0 s.last ≡ Some e → Far n k s (plain_ran s k e)
     far_none n k s e q = (0, sym (add-zero k), sym (add-zero (count s)), sym (add-zero s.depth), goes_none s.last s.depth n e q)
 
     one_ending : (d n : ℕ) (v : State P) (m : Mark) → r.mark v.processor ≡ m → ending r j d (suc n) 1 v ≡ choose true (is_halted m) (kept.is_break m) (eqb 1 (suc n)) (ltb (d + 1) j) (by_next (instruction r v))
-    one_ending d n v m e = ap (λ (x : Mark). choose true (is_halted x) (kept.is_break x) (eqb 1 (suc n)) (ltb (d + 1) j) (by_next (instruction r v))) e
+    one_ending d n v m e = rw e refl
 
-    far_mark : (n k : ℕ) (s : Plain P) (v : State P) → ending r j s.depth (suc n) 0 s.last ≡ None → instruction r s.last ≡ Ok v → Far n (k + 1) (push v s) (plain_run r j n (k + 1) (push v s)) → (m : Mark) → r.mark v.processor ≡ m → Far (suc n) k s (marked n k v s m)
+    far_mark : (n k : ℕ) (s : Plain P) (v : State P) → ending r j s.depth (suc n) 0 s.last ≡ None → instruction r s.last ≡ Ok v → Far n (k + 1) (push v s) (plain_run r j n (k + 1) (push v s)) → (m : Mark) → r.mark v.processor ≡ m → Far (suc n) k s (marked r j n k v s m)
     far_mark n k s v go step more mark.Ready m =
         (suc more.0, more.1 ∙ omega arith, more.2 ∙ omega arith, more.3 ∙ omega arith, goes_more s.last v s.depth n go step more.0 _ m more.4)
     far_mark n k s v go step more mark.AtBreak m =
@@ -100,14 +90,10 @@ module _ {P : Type 0} (r : Rules P) where
 
     first_ending : (n : ℕ) (s : Plain P) (h b : Bool) (o : Result (State P) Fault) → is_halted (r.mark s.last.processor) ≡ h → ltb s.depth j ≡ b → instruction r s.last ≡ o → ending r j s.depth (suc n) 0 s.last ≡ cond h (Some halted) (cond b (by_next o) (Some full))
     first_ending n s h b o e f q =
-        let d0 : ltb (s.depth + 0) j ≡ b = ap (λ (x : ℕ). ltb x j) (add-zero s.depth) ∙ f in
         let n0 : eqb 0 (suc n) ≡ false = ne_eqb 0 (suc n) (λ x. omega arith) in
-        ap (λ (x : Bool). choose false (is_halted (r.mark s.last.processor)) (kept.is_break (r.mark s.last.processor)) x (ltb (s.depth + 0) j) (by_next (instruction r s.last))) n0
-        ∙ (ap (λ (x : Bool). cond x (Some halted) (cond (ltb (s.depth + 0) j) (by_next (instruction r s.last)) (Some full))) e
-        ∙ (ap (λ (x : Bool). cond h (Some halted) (cond x (by_next (instruction r s.last)) (Some full))) d0
-        ∙ ap (λ (x : Result (State P) Fault). cond h (Some halted) (cond b (by_next x) (Some full))) q))
+        rw (n0, e, add-zero s.depth, f, q) refl
 
-    far_move : (n k : ℕ) (s : Plain P) → ((v : State P) → Far n (k + 1) (push v s) (plain_run r j n (k + 1) (push v s))) → (h b : Bool) (o : Result (State P) Fault) → ending r j s.depth (suc n) 0 s.last ≡ cond h (Some halted) (cond b (by_next o) (Some full)) → instruction r s.last ≡ o → Far (suc n) k s (moved n k s (cond h (held halted) (cond b (by_instruction o) (held full))))
+    far_move : (n k : ℕ) (s : Plain P) → ((v : State P) → Far n (k + 1) (push v s) (plain_run r j n (k + 1) (push v s))) → (h b : Bool) (o : Result (State P) Fault) → ending r j s.depth (suc n) 0 s.last ≡ cond h (Some halted) (cond b (by_next o) (Some full)) → instruction r s.last ≡ o → Far (suc n) k s (moved r j n k s (tested h b o))
     far_move n k s more true b o q e = far_none (suc n) k s halted q
     far_move n k s more false false o q e = far_none (suc n) k s full q
     far_move n k s more false true (Err f) q e = far_none (suc n) k s (refused f) q
@@ -122,12 +108,12 @@ module _ {P : Type 0} (r : Rules P) where
         far_move n k s (λ v. far n (k + 1) (push v s)) h b o (first_ending n s h b o refl refl refl) refl
 
     -- a run keeps the states in order
-    follow_mark : (w : State P) (n k : ℕ) (v : State P) (s : Plain P) → ((s : Plain P) → Follow r w s.last s.past → let x = plain_run r j n (k + 1) s in Follow r w x.plain.last x.plain.past) → Follow r w v (s.last ∷ s.past) → (m : Mark) → Follow r w (marked n k v s m).plain.last (marked n k v s m).plain.past
+    follow_mark : (w : State P) (n k : ℕ) (v : State P) (s : Plain P) → ((s : Plain P) → Follow r w s.last s.past → let x = plain_run r j n (k + 1) s in Follow r w x.plain.last x.plain.past) → Follow r w v (s.last ∷ s.past) → (m : Mark) → Follow r w (marked r j n k v s m).plain.last (marked r j n k v s m).plain.past
     follow_mark w n k v s more f mark.Ready = more (push v s) f
     follow_mark w n k v s more f mark.AtBreak = f
     follow_mark w n k v s more f mark.Halted = f
 
-    follow_move : (w : State P) (n k : ℕ) (s : Plain P) → Follow r w s.last s.past → ((s : Plain P) → Follow r w s.last s.past → let x = plain_run r j n (k + 1) s in Follow r w x.plain.last x.plain.past) → (h b : Bool) (o : Result (State P) Fault) → instruction r s.last ≡ o → let x = moved n k s (cond h (held halted) (cond b (by_instruction o) (held full))) in Follow r w x.plain.last x.plain.past
+    follow_move : (w : State P) (n k : ℕ) (s : Plain P) → Follow r w s.last s.past → ((s : Plain P) → Follow r w s.last s.past → let x = plain_run r j n (k + 1) s in Follow r w x.plain.last x.plain.past) → (h b : Bool) (o : Result (State P) Fault) → instruction r s.last ≡ o → let x = moved r j n k s (tested h b o) in Follow r w x.plain.last x.plain.past
     follow_move w n k s f more true b o e = f
     follow_move w n k s f more false false o e = f
     follow_move w n k s f more false true (Err x) e = f

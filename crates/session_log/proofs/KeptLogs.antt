@@ -1,11 +1,9 @@
-use Rattle.std.proofs.Common.{◌≡◌, ℕ, zero, suc, ◌+◌, ◌-◌, ◌≤◌, Bool, true, false, cond, ltb, List, [], ◌∷◌, length, None, Ok, Err, Result, sym, refl, ap, ◌∙◌, subst, zero-add, arith}
+use Rattle.std.proofs.Common.{◌≡◌, ℕ, zero, suc, ◌+◌, ◌-◌, ◌≤◌, Bool, true, false, cond, ltb, List, [], ◌∷◌, length, None, Ok, Err, Result, sym, refl, ◌∙◌, zero-add, arith}
 use Rattle.std.proofs.lemmas.Bool.{ltb-true, ltb-false}
 use Rattle.refusal.specs.declared.Cause.TheVariants.{RunTooLong, CountTooHigh, BackTooFar}
 use Rattle.processor.specs.Views.{Places}
 use Rattle.processor.specs.Rules.{Rules, State}
 use Rattle.session.specs.Snapshots.{Reason, rule}
-use Rattle.session.specs.Runs.{told_stop}
-use Rattle.session_log.specs.declared.line.Answer.TheVariants as answer
 use Rattle.session_log.specs.declared.line.Call.{Call}
 use Rattle.session_log.specs.declared.line.Call.TheVariants.{Run, Back, Forget, Look}
 use Rattle.session_log.specs.declared.line.Line.{Line}
@@ -44,11 +42,9 @@ module _ {P : Type 0} (r : Rules P) (p : Places) (j : ℕ) (w : State P) where
       let f = far r j n 0 s in
       let m = f.0 in
       let e : x.done ≡ m = f.1 ∙ zero-add m in
-      let a = ends r j w s.last (count s) s.depth n m x.ending (follow_after r w s.last s.past i.follow) f.4 in
-      let F : ℕ → Type 0 = λ y. RunKept r p j w (count s) s.depth n (Ok (answer.Ran (record { done = y; stop = told_stop p x.ending }))) (count s + m) in
-      let G : ℕ → Type 0 = λ y. RunKept r p j w (count s) s.depth n (Ok (answer.Ran (record { done = x.done; stop = told_stop p x.ending }))) y in (
-        subst G (sym f.2) (subst F (sym e) (RunKept.done m x.ending h k a)),
-        ap (λ (y : ℕ). s.depth + y) e ∙ sym f.3,
+      let a = ends r j w s.last (count s) s.depth n m x.ending (follow_after r w s.last s.past i.follow) f.4 in (
+        rw (f.2, e) (RunKept.done m x.ending h k a),
+        omega (arith, e, f.3),
         record { follow = follow_run r j w n 0 s i.follow; within = omega (arith, f.2, f.3, i.within) },
       )
 
@@ -62,8 +58,7 @@ module _ {P : Type 0} (r : Rules P) (p : Places) (j : ℕ) (w : State P) where
   kept_back n s i false e =
       let h = ltb-false s.depth n e in
       let x = dropped n s.last s.past s.depth (omega (arith, i.within)) i.follow in
-      let G : ℕ → Type 0 = λ y. BackKept (count s) s.depth n (Ok (answer.Taken (record { done = n; refusal = None }))) y in
-      (subst G (sym x.0) (BackKept.done h), sym x.1, record { follow = x.2; within = omega (arith, x.0, x.1, i.within) })
+      (rw x.0 (BackKept.done h), sym x.1, record { follow = x.2; within = omega (arith, x.0, x.1, i.within) })
 
   word_depth : (d : ℕ) (o : Result ℕ Reason) → depth_after d (told_line p (word_reply o)) ≡ d
   word_depth d (Ok x) = refl
@@ -80,9 +75,8 @@ module _ {P : Type 0} (r : Rules P) (p : Places) (j : ℕ) (w : State P) where
   kept_log [] s i = tt
   kept_log (l ∷ ls) s i =
       let x = plain_call r j l.call s in
-      let a = kept_call l.call s i in
-      let F : ℕ → Type 0 = λ d. LogKept r p j w (count x.plain) d (plain_lines r p j ls x.plain) in (
+      let a = kept_call l.call s i in (
         a.0,
         (x.plain.last.view, follow_after r w x.plain.last x.plain.past a.2.follow),
-        subst F (sym a.1) (kept_log ls x.plain a.2),
+        rw a.1 (kept_log ls x.plain a.2),
       )

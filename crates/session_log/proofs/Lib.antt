@@ -1,5 +1,5 @@
-mod Refusing
 mod Undoing
+pub mod Turns
 mod Simulates
 mod LogLaws
 mod Logs

@@ -1,4 +1,4 @@
-use Rattle.std.proofs.Common.{◌≡◌, ℕ, ◌+◌, ◌<◌, ◌≤◌, List, [], ◌∷◌, ◌++◌, length, get_or, take, drop, set, sym, ap, ◌∙◌, arith}
+use Rattle.std.proofs.Common.{◌≡◌, ℕ, ◌+◌, ◌<◌, ◌≤◌, List, [], ◌∷◌, ◌++◌, length, get_or, take, drop, set, sym, refl, ap, ◌∙◌, arith}
 use Rattle.std.proofs.lemmas.List.{append_assoc, append-nil, take_all, drop-set-lt, drop_more, drop_all, take_more_set}
 use Rattle.processor.specs.Views.{Places}
 use Rattle.processor.specs.Rules.{Rules}
@@ -24,25 +24,20 @@ module _ {P : Type 0} (r : Rules P) (p q : Places) (d b : Snapshot P) (ls ms : L
   here = sym same ∙ (left ∙ ap (λ (ys : List (Line P)). x ∷ ys) rest)
 
   pub after_more : (y : Snapshot P) → log_after r (drop i ms) d ≡ y → log_after r (drop (i + 1) ms) b ≡ y
-  after_more y whole = ap (log_after r (drop (i + 1) ms)) after ∙ (sym (ap (λ (l : List (Line P)). log_after r l d) here) ∙ whole)
+  after_more y whole = rw after (rw here at whole)
 
   pub lines_more : (ys : List (Line P)) → a ≡ line_by q x (serves r x.call d) → take i ls ++ log_lines r p (drop i ms) d ≡ ys → take (i + 1) (set ls i a) ++ log_lines r p (drop (i + 1) ms) b ≡ ys
   lines_more ys e whole =
-      let f : a ≡ line_by p x (serves r x.call d) = e ∙ ap (λ (y : Places). line_by y x (serves r x.call d)) told in
-      let n : log_lines r p (drop i ms) d ≡ a ∷ log_lines r p (drop (i + 1) ms) b =
-      ap (λ (l : List (Line P)). log_lines r p l d) here
-      ∙ (ap (λ (y : Line P). y ∷ log_lines r p (drop (i + 1) ms) (serves r x.call d).after) (sym f)
-      ∙ ap (λ (v : Snapshot P). a ∷ log_lines r p (drop (i + 1) ms) v) (sym after)) in
-      ap (λ (l : List (Line P)). l ++ log_lines r p (drop (i + 1) ms) b) (take_more_set ls i a h)
-      ∙ (append_assoc (take i ls) (a ∷ []) (log_lines r p (drop (i + 1) ms) b) ∙ (sym (ap (λ (l : List (Line P)). take i ls ++ l) n) ∙ whole))
+      let n : log_lines r p (drop i ms) d ≡ a ∷ log_lines r p (drop (i + 1) ms) b = rw (here, e, told, after) refl in
+      rw (take_more_set ls i a h, append_assoc (take i ls) (a ∷ []) (log_lines r p (drop (i + 1) ms) b), ← n) whole
 
   pub rest_more : drop (i + 1) (set ls i a) ≡ drop (i + 1) ms
   rest_more = drop-set-lt (i + 1) ls i a (omega arith) ∙ rest
 
 module _ {P : Type 0} (r : Rules P) (p : Places) (d : Snapshot P) (ls ms : List (Line P)) (i : ℕ) (h : length ms ≤ i) (k : length ls ≤ i) where
   pub after_all : (y : Snapshot P) → log_after r (drop i ms) d ≡ y → d ≡ y
-  after_all y whole = sym (ap (λ (l : List (Line P)). log_after r l d) (drop_all i ms h)) ∙ whole
+  after_all y whole = rw (drop_all i ms h) at whole
 
   pub lines_all : (ys : List (Line P)) → take i ls ++ log_lines r p (drop i ms) d ≡ ys → ls ≡ ys
   lines_all ys whole =
-      sym (take_all i ls k) ∙ (sym (append-nil (take i ls)) ∙ (sym (ap (λ (l : List (Line P)). take i ls ++ log_lines r p l d) (drop_all i ms h)) ∙ whole))
+      rw (drop_all i ms h, append-nil (take i ls), take_all i ls k) at whole

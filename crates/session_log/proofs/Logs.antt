@@ -1,19 +1,19 @@
-use Rattle.std.proofs.Common.{◌≡◌, ℕ, ◌+◌, Bool, true, false, cond, ◌&&◌, ◌||◌, ltb, List, [], ◌∷◌, length, None, Ok, Err, Option, sym, refl, ap, ◌∙◌, subst, arith}
+use Rattle.std.proofs.Common.{◌≡◌, ℕ, ◌+◌, Bool, true, false, cond, ◌&&◌, ◌||◌, ltb, List, [], ◌∷◌, length, None, Ok, Err, refl, ap, ◌∙◌, arith}
 use Rattle.std.proofs.lemmas.Bool.{ltb-false, le-ltb, and_right}
 use Rattle.refusal.specs.declared.Cause.{Cause}
 use Rattle.refusal.specs.declared.Cause.TheVariants.{RunTooLong, CountTooHigh, BackTooFar}
-use Rattle.processor.specs.Views.{Fault, Places}
+use Rattle.processor.specs.Views.{Places}
 use Rattle.processor.specs.Rules.{Rules, State}
 use Rattle.session.specs.Snapshots.{Snapshot, rule}
 use Rattle.session.specs.Runs.{Ended, runs_on}
-use Rattle.session.specs.Backs.{newest, Gone, backs_on}
+use Rattle.session.specs.Backs.{Gone, backs_on}
 use Rattle.session_log.specs.declared.line.Call.{Call}
 use Rattle.session_log.specs.declared.line.Call.TheVariants.{Run, Back, Forget, Look}
 use Rattle.session_log.specs.declared.line.Line.{Line}
 use Rattle.session_log.specs.Replies.{ran, taken}
 use Rattle.session_log.specs.Serving.{Served, served, served_run, served_back, by_run, by_back, serves, line_by, log_after, log_lines}
 use Rattle.session_log.specs.Plain.{Plain, PlainRan, plain_run, drops, PlainServed, replied, plain_call, plain_after, plain_lines, filled}
-use Rattle.session_log.specs.Stands.{Stands, Undo, Follow}
+use Rattle.session_log.specs.Stands.{Stands}
 use Rattle.session_log.proofs.Simulates.{Tied, plain_of, RunSim, BackSim, sim_run, sim_back}
 
 module _ {P : Type 0} (r : Rules P) (w : State P) (j : ℕ) where
@@ -22,14 +22,10 @@ module _ {P : Type 0} (r : Rules P) (w : State P) (j : ℕ) where
   CallSim x y = (past : List (State P)) × (y ≡ replied (plain_of x.after past) x.reply) × Tied r w j x.after past
 
   from_run : (x : Ended P) (y : PlainRan P) → RunSim r w j x y → CallSim (served x.after (Ok (ran x.done x.ending))) (replied y.plain (Ok (ran y.done y.ending)))
-  from_run x y (past, e, i) = (past, ap (λ (z : PlainRan P). replied z.plain (Ok (ran z.done z.ending))) e, i)
+  from_run x y (past, e, i) = (past, rw e refl, i)
 
   from_back : (n : ℕ) (x : Gone P) (s : Plain P) → BackSim r w j x n s → CallSim (served x.after (Ok (taken x.done x.fault))) (replied s (Ok (taken n None)))
-  from_back n x s (past, e, k, f, i) =
-      let a : Plain P → PlainServed P = λ z. replied z (Ok (taken n None)) in
-      let b : ℕ → PlainServed P = λ z. replied (plain_of x.after past) (Ok (taken z None)) in
-      let c : Option Fault → PlainServed P = λ z. replied (plain_of x.after past) (Ok (taken x.done z)) in
-      (past, ap a e ∙ (ap b (sym k) ∙ ap c (sym f)), i)
+  from_back n x s (past, e, k, f, i) = (past, rw (e, k, f) refl, i)
 
   by_tests : (d : Snapshot P) (past : List (State P)) → Tied r w j d past → (a b : Bool) (f g : Cause) (x : Ended P) (y : PlainServed P) → CallSim (served_run (Ok x) d) y
       → CallSim (served_run (cond a (Err (rule f)) (cond b (Err (rule g)) (Ok x))) d) (cond a (replied (plain_of d past) (Err (rule f))) (cond b (replied (plain_of d past) (Err (rule g))) y))
@@ -40,7 +36,7 @@ module _ {P : Type 0} (r : Rules P) (w : State P) (j : ℕ) where
   by_test : (d : Snapshot P) (past : List (State P)) → Tied r w j d past → (a b : Bool) (f : Cause) (x : Gone P) (y : PlainServed P) → b ≡ false → (a ≡ false → CallSim (served_back (Ok x) d) y)
       → CallSim (served_back (cond (a || b) (Err (rule f)) (Ok x)) d) (cond a (replied (plain_of d past) (Err (rule f))) y)
   by_test d past i true b f x y h o = (past, refl, i)
-  by_test d past i false true f x y h o = absurd (let z : ◌≡◌ {A = ℕ} 0 1 = cc in omega arith)
+  by_test d past i false true f x y h o = cc
   by_test d past i false false f x y h o = o refl
 
   pub sim_call : (c : Call) (d : Snapshot P) (past : List (State P)) → Tied r w j d past → CallSim (serves r c d) (plain_call r j c (plain_of d past))
@@ -48,14 +44,13 @@ module _ {P : Type 0} (r : Rules P) (w : State P) (j : ℕ) where
   sim_call (Run n) d past i =
       let x = runs_on r n 0 d in
       let y = plain_run r j n 0 (plain_of d past) in
-      let F : ℕ → Type 0 = λ m. CallSim (serves r (Run n) d) (cond (ltb 1000000 n) (replied (plain_of d past) (Err (rule RunTooLong))) (cond (ltb 4000000000 (m + n)) (replied (plain_of d past) (Err (rule CountTooHigh))) (replied y.plain (Ok (ran y.done y.ending))))) in
-      subst F i.kept (by_tests d past i (ltb 1000000 n) (ltb 4000000000 (d.count + n)) RunTooLong CountTooHigh x (replied y.plain (Ok (ran y.done y.ending))) (from_run x y (sim_run r w j n 0 d past i)))
+      rw (← i.kept) (by_tests d past i (ltb 1000000 n) (ltb 4000000000 (d.count + n)) RunTooLong CountTooHigh x (replied y.plain (Ok (ran y.done y.ending))) (from_run x y (sim_run r w j n 0 d past i)))
   sim_call (Back n) d past i =
       let x = backs_on n 0 d in
       let g : ltb (length d.slots) d.used ≡ false = le-ltb (length d.slots) d.used (omega (arith, i.lent, i.within)) in
       let b : (ltb 0 n && ltb (length d.slots) d.used) ≡ false = and_right (ltb 0 n) (ltb (length d.slots) d.used) g in
       by_test d past i (ltb d.used n) (ltb 0 n && ltb (length d.slots) d.used) BackTooFar x (replied (drops n (plain_of d past)) (Ok (taken n None))) b (λ e. from_back n x (drops n (plain_of d past)) (sim_back r w j n d past (ltb-false d.used n e) i))
-  sim_call Forget d past i = (past, refl, record { kept = i.kept; lent = i.lent; within = omega arith; undo = tt; follow = i.follow })
+  sim_call Forget d past i = (past, refl, record { last = refl; kept = i.kept; depth = refl; lent = i.lent; within = omega arith; undo = tt; follow = i.follow })
   sim_call (Look s) d past i = (past, refl, i)
 
   -- the lines of a session's log are those of the plain session
@@ -63,9 +58,7 @@ module _ {P : Type 0} (r : Rules P) (w : State P) (j : ℕ) where
   LogSim p ls d s = (past : List (State P)) × (plain_after r j ls s ≡ plain_of (log_after r ls d) past) × (plain_lines r p j ls s ≡ log_lines r p ls d) × Tied r w j (log_after r ls d) past
 
   filled_same : (p : Places) (l : Line P) (x : Served P) (y : PlainServed P) → CallSim x y → filled p l y ≡ line_by p l x
-  filled_same p l x y (past, e, i) =
-      let F : ℕ → Line P = λ k. record { call = l.call; answer = (line_by p l x).answer; count = k; processor = x.after.state.processor } in
-      ap (filled p l) e ∙ ap F (sym i.kept)
+  filled_same p l x y (past, e, i) = rw (e, i.kept) refl
 
   pub sim_log : (p : Places) (ls : List (Line P)) (d : Snapshot P) (past : List (State P)) → Tied r w j d past → LogSim p ls d (plain_of d past)
   sim_log p [] d past i = (past, refl, refl, i)
@@ -77,25 +70,16 @@ module _ {P : Type 0} (r : Rules P) (w : State P) (j : ℕ) where
       let e : y.plain ≡ plain_of x.after a.0 = ap (λ (z : PlainServed P). z.plain) a.1 in (
         b.0,
         ap (plain_after r j ls) e ∙ b.1,
-        ap (λ (z : Line P). z ∷ plain_lines r p j ls y.plain) (filled_same p l x y a)
-            ∙ (ap (λ (z : Plain P). line_by p l x ∷ plain_lines r p j ls z) e ∙ ap (λ (zs : List (Line P)). line_by p l x ∷ zs) b.2),
+        rw (filled_same p l x y a, e, b.2) refl,
         b.3,
       )
 
   -- standing as a plain session, in both forms
   pub stands_is : (d : Snapshot P) (s : Plain P) → Stands r w j d s → s ≡ plain_of d s.past
-  stands_is d s i =
-      let F : State P → Plain P = λ u. record { last = u; past = s.past; depth = s.depth } in
-      let G : ℕ → Plain P = λ n. record { last = d.state; past = s.past; depth = n } in
-      ap F (sym i.last) ∙ ap G (sym i.depth)
+  stands_is d s i = rw (i.last, i.depth) refl
 
   pub stands_tied : (d : Snapshot P) (s : Plain P) → Stands r w j d s → Tied r w j d s.past
-  stands_tied d s i =
-      let F : State P → Type 0 = λ u. Undo (newest d.used d.slots) u s.past in
-      let G : State P → Type 0 = λ u. Follow r w u s.past in
-      record { kept = i.kept; lent = i.lent; within = i.within; undo = subst F (sym i.last) i.undo; follow = subst G (sym i.last) i.follow }
+  stands_tied d s i = rw (← stands_is d s i) i
 
   pub tied_stands : (d : Snapshot P) (s : Plain P) (past : List (State P)) → s ≡ plain_of d past → Tied r w j d past → Stands r w j d s
-  tied_stands d s past e i =
-      let t : Stands r w j d (plain_of d past) = record { last = refl; kept = i.kept; depth = refl; lent = i.lent; within = i.within; undo = i.undo; follow = i.follow } in
-      subst (λ (x : Plain P). Stands r w j d x) (sym e) t
+  tied_stands d s past e i = rw e i

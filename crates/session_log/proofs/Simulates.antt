@@ -1,4 +1,4 @@
-use Rattle.std.proofs.Common.{◌≡◌, ℕ, zero, suc, ◌+◌, ◌-◌, ◌<◌, ◌≤◌, Bool, true, false, cond, ltb, List, [], ◌∷◌, length, get_or, take, set, Some, None, Ok, Err, Result, sym, refl, ap, ◌∙◌, subst, add-zero, zero-add, add-one, arith, length-set}
+use Rattle.std.proofs.Common.{◌≡◌, ℕ, zero, suc, ◌+◌, ◌-◌, ◌<◌, ◌≤◌, Bool, true, false, cond, ltb, List, [], ◌∷◌, length, get_or, take, Some, None, Ok, Err, Result, sym, refl, ap, ◌∙◌, subst, add-zero, zero-add, add-one, arith, length-set}
 use Rattle.std.proofs.lemmas.List.{length-reverse, length-take-le}
 use Rattle.std.proofs.lemmas.Bool.{ltb-true}
 use Rattle.processor.specs.declared.Mark.{Mark}
@@ -8,23 +8,20 @@ use Rattle.processor.specs.Rules.{Rules, State, Moved, state_of}
 use Rattle.session.specs.declared.entry.Entry.{Entry}
 use Rattle.session.specs.Snapshots.{Snapshot}
 use Rattle.session.specs.Trials.{tried, restored}
-use Rattle.session.specs.Runs.{halted, at_break, full, is_halted, Course, goes_on, last, none, by_mark, by_step, noted, Ended, ended, runs_on}
+use Rattle.session.specs.Runs.{halted, full, is_halted, Course, goes_on, last, none, by_mark, by_step, noted, Ended, ended, runs_on}
 use Rattle.session.specs.Backs.{newest, undone, Gone, gone, takes}
 use Rattle.session.proofs.BackLaws.{newest_next, newest_set}
-use Rattle.session_log.specs.Plain.{Plain, push, drops, Move, onto, held, by_instruction, PlainRan, plain_ran, plain_run}
-use Rattle.session_log.specs.Stands.{Undo, Follow}
+use Rattle.session_log.specs.Plain.{Plain, drops, PlainRan, plain_ran, plain_run}
+use Rattle.session_log.specs.Stands.{Stands, Undo}
+use Rattle.session_log.proofs.Turns.{marked, moved, tested}
 use Rattle.session_log.proofs.Undoing.{entry_undoes}
-
--- a session and the states before its own
-pub record Tied {P : Type 0} (r : Rules P) (w : State P) (j : ℕ) (d : Snapshot P) (past : List (State P)) : Type 0 where
-  pub kept : d.count ≡ length past
-  pub lent : length d.slots ≡ j
-  pub within : d.used ≤ j
-  pub undo : Undo (newest d.used d.slots) d.state past
-  pub follow : Follow r w d.state past
 
 abbrev pub plain_of : {P : Type 0} → Snapshot P → List (State P) → Plain P
 plain_of d past = record { last = d.state; past = past; depth = d.used }
+
+-- a session stands as the plain session of its own state and the states before it
+abbrev pub Tied : {P : Type 0} → Rules P → State P → ℕ → Snapshot P → List (State P) → Type 0
+Tied r w j d past = Stands r w j d (plain_of d past)
 
 module _ {P : Type 0} (r : Rules P) (w : State P) (j : ℕ) where
   -- an instruction done and noted
@@ -33,14 +30,13 @@ module _ {P : Type 0} (r : Rules P) (w : State P) (j : ℕ) where
   tied_noted d past m i h e =
       let x : Entry P = record { before = d.state.processor; undo = m.undo } in
       let s : d.used < length d.slots = omega (arith, i.lent) in
-      let n : d.used + 1 ≡ suc d.used = add-one d.used in
-      let q : newest (d.used + 1) (set d.slots d.used x) ≡ x ∷ newest d.used d.slots = ap (λ (u : ℕ). newest u (set d.slots d.used x)) n ∙ newest_set d.used d.slots x s in
-      let F : List (Entry P) → Type 0 = λ es. Undo es m.state (d.state ∷ past) in
       record {
+        last = refl;
         kept = omega (arith, i.kept);
+        depth = refl;
         lent = length-set d.slots d.used x ∙ i.lent;
         within = omega arith;
-        undo = subst F (sym q) (entry_undoes r d.state m e, i.undo);
+        undo = rw (add-one d.used, newest_set d.used d.slots x s) (entry_undoes r d.state m e, i.undo);
         follow = (ap state_of e, i.follow);
       }
 
@@ -51,24 +47,13 @@ module _ {P : Type 0} (r : Rules P) (w : State P) (j : ℕ) where
   abbrev run_by : ℕ → ℕ → Course → Snapshot P → Ended P
   run_by n k u b = elim u [ goes_on ↦ runs_on r n (k + 1) b | last e ↦ ended b (k + 1) e | none e ↦ ended b k e ]
 
-  abbrev plain_mark : ℕ → ℕ → State P → Plain P → Mark → PlainRan P
-  plain_mark n k v s m =
-      elim m [
-        | mark.Ready ↦ plain_run r j n (k + 1) (push v s)
-        | mark.AtBreak ↦ plain_ran (push v s) (k + 1) at_break
-        | mark.Halted ↦ plain_ran (push v s) (k + 1) halted
-      ]
-
-  abbrev plain_by : ℕ → ℕ → Plain P → Move P → PlainRan P
-  plain_by n k s m = elim m [ held e ↦ plain_ran s k e | onto v ↦ plain_mark n k v s (r.mark v.processor) ]
-
-  sim_mark : (n k : ℕ) (d : Snapshot P) (past : List (State P)) (m : Moved P) → Tied r w j (noted (Ok m) d) (d.state ∷ past) → ((b : Snapshot P) (vs : List (State P)) → Tied r w j b vs → RunSim (runs_on r n (k + 1) b) (plain_run r j n (k + 1) (plain_of b vs))) → (x : Mark) → RunSim (run_by n k (by_mark x) (noted (Ok m) d)) (plain_mark n k m.state (plain_of d past) x)
+  sim_mark : (n k : ℕ) (d : Snapshot P) (past : List (State P)) (m : Moved P) → Tied r w j (noted (Ok m) d) (d.state ∷ past) → ((b : Snapshot P) (vs : List (State P)) → Tied r w j b vs → RunSim (runs_on r n (k + 1) b) (plain_run r j n (k + 1) (plain_of b vs))) → (x : Mark) → RunSim (run_by n k (by_mark x) (noted (Ok m) d)) (marked r j n k m.state (plain_of d past) x)
   sim_mark n k d past m i more mark.Ready = more (noted (Ok m) d) (d.state ∷ past) i
   sim_mark n k d past m i more mark.AtBreak = (d.state ∷ past, refl, i)
   sim_mark n k d past m i more mark.Halted = (d.state ∷ past, refl, i)
 
   sim_turn : (n k : ℕ) (d : Snapshot P) (past : List (State P)) → Tied r w j d past → ((b : Snapshot P) (vs : List (State P)) → Tied r w j b vs → RunSim (runs_on r n (k + 1) b) (plain_run r j n (k + 1) (plain_of b vs))) → (h b : Bool) → ltb d.used j ≡ b → (x : Result (Moved P) Fault) → tried r d.state ≡ x
-      → RunSim (run_by n k (cond h (none halted) (cond b (by_step r x) (none full))) (cond h d (cond b (noted x d) d))) (plain_by n k (plain_of d past) (cond h (held halted) (cond b (by_instruction (state_of x)) (held full))))
+      → RunSim (run_by n k (cond h (none halted) (cond b (by_step r x) (none full))) (cond h d (cond b (noted x d) d))) (moved r j n k (plain_of d past) (tested h b (state_of x)))
   sim_turn n k d past i more true b e x o = (past, refl, i)
   sim_turn n k d past i more false false e x o = (past, refl, i)
   sim_turn n k d past i more false true e (Err f) o = (past, refl, i)
@@ -80,7 +65,7 @@ module _ {P : Type 0} (r : Rules P) (w : State P) (j : ℕ) where
   sim_run (suc n) k d past i =
       let h = is_halted (r.mark d.state.processor) in
       let x = tried r d.state in
-      let F : ℕ → Type 0 = λ m. RunSim (run_by n k (cond h (none halted) (cond (ltb d.used m) (by_step r x) (none full))) (cond h d (cond (ltb d.used m) (noted x d) d))) (plain_by n k (plain_of d past) (cond h (held halted) (cond (ltb d.used j) (by_instruction (state_of x)) (held full)))) in
+      let F : ℕ → Type 0 = λ m. RunSim (run_by n k (cond h (none halted) (cond (ltb d.used m) (by_step r x) (none full))) (cond h d (cond (ltb d.used m) (noted x d) d))) (moved r j n k (plain_of d past) (tested h (ltb d.used j) (state_of x))) in
       subst F (sym i.lent) (sim_turn n k d past i (λ b vs o. sim_run n (k + 1) b vs o) h (ltb d.used j) refl x refl)
 
   -- a back goes as the plain session's
@@ -98,30 +83,26 @@ module _ {P : Type 0} (r : Rules P) (w : State P) (j : ℕ) where
       let s : d.used ≡ suc (d.used - 1) = omega arith in
       let l : d.used - 1 < length d.slots = omega (arith, i.lent, i.within) in
       let a : newest d.used d.slots ≡ get_or d.slots (d.used - 1) e ∷ newest (d.used - 1) d.slots = ap (λ (u : ℕ). newest u d.slots) s ∙ newest_next (d.used - 1) d.slots e l in
-      let b : es ≡ newest (d.used - 1) d.slots = cc in
-      let F : List (Entry P) → Type 0 = λ xs. Undo xs m.state past in
-      let G : State P → Type 0 = λ x. Undo es x past in
-      let H : State P → Type 0 = λ x. Follow r w x past in (
+      let b : es ≡ newest (d.used - 1) d.slots = cc in (
         b,
         record {
+          last = refl;
           kept = omega (arith, i.kept);
+          depth = refl;
           lent = i.lent;
           within = omega (arith, i.within);
-          undo = subst F b (subst G (sym z) o);
-          follow = subst H (sym z) i.follow.1;
+          undo = rw (← b, z) o;
+          follow = rw z i.follow.1;
         },
       )
 
   sim_took : (n : ℕ) (e : Entry P) (es : List (Entry P)) (k : ℕ) (d : Snapshot P) (v : State P) (past : List (State P)) → e ∷ es ≡ newest d.used d.slots → suc n ≤ d.used → Tied r w j d (v ∷ past) → Undo es v past → ((b : Snapshot P) → es ≡ newest b.used b.slots → n ≤ b.used → Tied r w j b past → Undo es b.state past → BackSim (takes (take n es) (k + 1) b) (k + 1 + n) (drops n (plain_of b past))) → (x : Result (Moved P) Fault) → state_of x ≡ Ok v → BackSim (took (take n es) k d x) (k + suc n) (drops n (record { last = v; past = past; depth = d.used - 1 }))
-  sim_took n e es k d v past q h i o more (Err f) z = absurd (let z : ◌≡◌ {A = ℕ} 0 1 = cc in omega arith)
+  sim_took n e es k d v past q h i o more (Err f) z = cc
   sim_took n e es k d v past q h i o more (Ok m) z =
       let f : m.state ≡ v = cc in
       let a = tied_undone d e es m v past q (omega arith) f i o in
       let c : k + 1 + n ≡ k + suc n = omega arith in
-      let G : State P → Type 0 = λ x. Undo es x past in
-      let F : ℕ → Type 0 = λ y. BackSim (takes (take n es) (k + 1) (undone (Ok m) d)) y (drops n (plain_of (undone (Ok m) d) past)) in
-      let H : State P → Type 0 = λ x. BackSim (takes (take n es) (k + 1) (undone (Ok m) d)) (k + suc n) (drops n (record { last = x; past = past; depth = d.used - 1 })) in
-      subst H f (subst F c (more (undone (Ok m) d) a.0 (omega arith) a.1 (subst G (sym f) o)))
+      rw (← f, ← c) (more (undone (Ok m) d) a.0 (omega arith) a.1 (rw f o))
 
   sim_takes : (n : ℕ) (es : List (Entry P)) (k : ℕ) (d : Snapshot P) (past : List (State P)) → es ≡ newest d.used d.slots → n ≤ d.used → Tied r w j d past → Undo es d.state past → BackSim (takes (take n es) k d) (k + n) (drops n (plain_of d past))
   sim_takes zero es k d past q h i o = (past, refl, sym (add-zero k), refl, i)
@@ -132,5 +113,4 @@ module _ {P : Type 0} (r : Rules P) (w : State P) (j : ℕ) where
 
   pub sim_back : (n : ℕ) (d : Snapshot P) (past : List (State P)) → n ≤ d.used → Tied r w j d past → BackSim (takes (take n (newest d.used d.slots)) 0 d) n (drops n (plain_of d past))
   sim_back n d past h i =
-      let F : ℕ → Type 0 = λ m. BackSim (takes (take n (newest d.used d.slots)) 0 d) m (drops n (plain_of d past)) in
-      subst F (zero-add n) (sim_takes n (newest d.used d.slots) 0 d past refl h i i.undo)
+      rw (zero-add n) at (sim_takes n (newest d.used d.slots) 0 d past refl h i i.undo)

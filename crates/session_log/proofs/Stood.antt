@@ -1,4 +1,4 @@
-use Rattle.std.proofs.Common.{◌≡◌, ℕ, ◌≤◌, List, [], ◌∷◌, length, take, Ok, Err, Result, sym, refl, ap, ◌∙◌, subst, arith, MatchResult}
+use Rattle.std.proofs.Common.{◌≡◌, ℕ, ◌≤◌, List, [], ◌∷◌, length, take, Ok, Err, Result, sym, refl, ap, ◌∙◌, arith, MatchResult}
 use Rattle.std.proofs.lemmas.List.{length-reverse, length-take-le}
 use Rattle.refusal.specs.declared.Refusal.{Refusal}
 use Rattle.processor.specs.Views.{View, Fault, Places}
@@ -16,11 +16,10 @@ use Rattle.session_log.specs.declared.line.Call.{Call}
 use Rattle.session_log.specs.declared.line.Line.{Line}
 use Rattle.session_log.specs.Replies.{told_line}
 use Rattle.session_log.specs.Serving.{serves, log_after, log_lines}
-use Rattle.session_log.specs.Plain.{Plain, count, fresh, PlainServed, plain_call, plain_after, plain_lines, after}
+use Rattle.session_log.specs.Plain.{Plain, fresh, PlainServed, plain_call, plain_after, plain_lines, after}
 use Rattle.session_log.specs.Stands.{Stands, Undo}
-use Rattle.session_log.specs.Kept.{LogKept}
 use Rattle.session_log.specs.Logs.{Answered, Logged, opened, opening_answer}
-use Rattle.session_log.proofs.Simulates.{Tied, plain_of}
+use Rattle.session_log.proofs.Simulates.{plain_of}
 use Rattle.session_log.proofs.Logs.{sim_call, sim_log, stands_is, stands_tied, tied_stands}
 use Rattle.session_log.proofs.Keeps.{follow_after}
 use Rattle.session_log.proofs.KeptLogs.{Sound, kept_log}
@@ -39,7 +38,7 @@ module _ {P : Type 0} (r : Rules P) (p : Places) (w : State P) (j : ℕ) where
 
   page_stands : (d : Snapshot P) (s : Plain P) → Stands r w j d s → after r d.count w ≡ Ok d.state
   page_stands d s i =
-      ap (λ (k : ℕ). after r k w) i.kept ∙ (follow_after r w s.last s.past i.follow ∙ ap (λ (x : State P). Ok x) (sym i.last))
+      rw (i.kept, i.last) (follow_after r w s.last s.past i.follow)
 
   -- a call on a session that stands as a plain session
   pub answered : (c : Call) (d b : Snapshot P) (s : Plain P) (x : Result Answer Refusal) → Stands r w j d s → x ≡ told_line p (serves r c d).reply → b ≡ (serves r c d).after → Answered r p w j c x b s
@@ -50,7 +49,7 @@ module _ {P : Type 0} (r : Rules P) (p : Places) (w : State P) (j : ℕ) where
       let g : (plain_call r j c s).plain ≡ plain_of b a.0 = ap (λ (z : PlainServed P). z.plain) y ∙ ap (λ (z : Snapshot P). plain_of z a.0) (sym f) in
       record {
         answer = e ∙ ap (told_line p) (sym (ap (λ (z : PlainServed P). z.reply) y));
-        stands = tied_stands r w j b (plain_call r j c s).plain a.0 g (subst (λ (z : Snapshot P). Tied r w j z a.0) (sym f) a.2);
+        stands = tied_stands r w j b (plain_call r j c s).plain a.0 g (rw f a.2);
       }
 
   -- a piece of log on a session that stands as a plain session
@@ -60,11 +59,11 @@ module _ {P : Type 0} (r : Rules P) (p : Places) (w : State P) (j : ℕ) where
       let a = sim_log r w j p ls d s.past (stands_tied r w j d s i) in
       let g : plain_after r j ls s ≡ plain_of b a.0 = ap (plain_after r j ls) q ∙ (a.1 ∙ ap (λ (z : Snapshot P). plain_of z a.0) (sym e)) in
       let l : ms ≡ plain_lines r p j ls s = f ∙ (sym a.2 ∙ ap (plain_lines r p j ls) (sym q)) in
-      let t : Stands r w j b (plain_after r j ls s) = tied_stands r w j b (plain_after r j ls s) a.0 g (subst (λ (z : Snapshot P). Tied r w j z a.0) (sym e) a.3) in
+      let t : Stands r w j b (plain_after r j ls s) = tied_stands r w j b (plain_after r j ls s) a.0 g (rw e a.3) in
       record {
         lines = l;
         stands = t;
-        kept = subst (λ (zs : List (Line P)). LogKept r p j w (count s) s.depth zs) (sym l) (kept_log r p j w ls s (sound d s i));
+        kept = rw l (kept_log r p j w ls s (sound d s i));
         page = page_stands b (plain_after r j ls s) t;
       }
 
@@ -74,11 +73,11 @@ stands_fresh r w slots = record { last = refl; kept = refl; depth = refl; lent =
 
 probes_is : (p : Places) (v : View) (ps : List CellWord) (o : Result Unit Fault) (x : View) → probes_told p v ps o ≡ Ok x → x ≡ put_all v ps
 probes_is p v ps (Ok u) x e = cc
-probes_is p v ps (Err f) x e = absurd (let z : ◌≡◌ {A = ℕ} 0 1 = cc in omega arith)
+probes_is p v ps (Err f) x e = cc
 
 tape_is : (p : Places) (v : View) (tape : List ℕ) (o : Result Unit Refusal) (x : View) → tape_told p v tape o ≡ Ok x → x ≡ put_all v (puts tape)
 tape_is p v tape (Ok u) x e = probes_is p v (puts tape) (probe_all v (puts tape)) x e
-tape_is p v tape (Err f) x e = absurd (let z : ◌≡◌ {A = ℕ} 0 1 = cc in omega arith)
+tape_is p v tape (Err f) x e = cc
 
 module _ {P : Type 0} (r : Rules P) (stack : ℕ) (v : View) (tape : List ℕ) where
   -- what an opening that was accepted leaves
@@ -87,7 +86,7 @@ module _ {P : Type 0} (r : Rules P) (stack : ℕ) (v : View) (tape : List ℕ) w
 
   opened_case : (o : Own P) (v' : View) (x : Result View Refusal) → ((y : View) → x ≡ Ok y → y ≡ put_all v (puts tape)) → Ok o ≡ opened_own r stack x → v' ≡ view_after x v → Opened o v' x
   opened_case o v' (Ok y) is e f = (refl, cc, f ∙ is y refl)
-  opened_case o v' (Err y) is e f = absurd (let z : ◌≡◌ {A = ℕ} 0 1 = cc in omega arith)
+  opened_case o v' (Err y) is e f = cc
 
   pub opened_is : (p : Places) (o : Own P) (v' : View) → Ok o ≡ opened_own r stack (loaded p v tape) → v' ≡ view_after (loaded p v tape) v → Opened o v' (loaded p v tape)
   opened_is p o v' e f = opened_case o v' (loaded p v tape) (tape_is p v tape (checked tape)) e f
@@ -95,8 +94,7 @@ module _ {P : Type 0} (r : Rules P) (stack : ℕ) (v : View) (tape : List ℕ) w
   pub opened_snapshot : (s : Session P) (v' : View) (slots : List (Entry P)) → own s ≡ fresh_own r stack → v' ≡ put_all v (puts tape) → snapshot s v' slots ≡ opened r stack v tape slots
   opened_snapshot s v' slots e f =
       let F : Own P → Snapshot P = λ o. record { state = state o.processor v'; count = o.count; used = o.used; slots = slots } in
-      let G : View → Snapshot P = λ x. record { state = state (r.start stack) x; count = 0; used = 0; slots = slots } in
-      ap F e ∙ ap G f
+      ap F e ∙ rw f refl
 
   -- what an opening answers, and what it leaves
   abbrev pub Opens : Result (Session P) Refusal → View → List (Entry P) → Result View Refusal → Type 0
@@ -104,8 +102,8 @@ module _ {P : Type 0} (r : Rules P) (stack : ℕ) (v : View) (tape : List ℕ) w
 
   opens_by : (x : Result (Session P) Refusal) (v' : View) (slots : List (Entry P)) (y : Result View Refusal) → ((z : View) → y ≡ Ok z → z ≡ put_all v (puts tape)) → own_answer x ≡ opened_own r stack y → v' ≡ view_after y v → Opens x v' slots y
   opens_by (Ok s) v' slots (Ok z) is e f = let o : own s ≡ fresh_own r stack = cc in (refl, opened_snapshot s v' slots o (f ∙ is z refl))
-  opens_by (Ok s) v' slots (Err z) is e f = absurd (let z : ◌≡◌ {A = ℕ} 0 1 = cc in omega arith)
-  opens_by (Err s) v' slots (Ok z) is e f = absurd (let z : ◌≡◌ {A = ℕ} 0 1 = cc in omega arith)
+  opens_by (Ok s) v' slots (Err z) is e f = cc
+  opens_by (Err s) v' slots (Ok z) is e f = cc
   opens_by (Err s) v' slots (Err z) is e f = (cc, f)
 
   pub opens : (p : Places) (x : Result (Session P) Refusal) (v' : View) (slots : List (Entry P)) → own_answer x ≡ opened_own r stack (loaded p v tape) → v' ≡ view_after (loaded p v tape) v → Opens x v' slots (loaded p v tape)

@@ -1,11 +1,11 @@
-use Rattle.std.proofs.Common.{◌≡◌, ℕ, Bool, true, false, cond, eqb, Some, None, Ok, Err, Option, Result, sym, refl, ap, ◌∙◌, subst, arith}
+use Rattle.std.proofs.Common.{◌≡◌, ℕ, Bool, true, false, cond, eqb, Some, None, Ok, Err, Option, Result, sym, refl, ap, ◌∙◌}
 use mathlib.Core.Path.{fun_ext}
 use Rattle.std.proofs.lemmas.Bool.{eq-eqb, eqb-true}
 use Rattle.processor.specs.declared.Side.{Side}
 use Rattle.processor.specs.declared.Side.TheVariants.{Memory, Screen}
 use Rattle.processor.specs.declared.CellWrite.{CellWrite}
 use Rattle.processor.specs.declared.Next.{Next}
-use Rattle.processor.specs.Views.{Cell, Cells, View, view, Fault, side_of, exchange, yielded, granted, put, put_into}
+use Rattle.processor.specs.Views.{Cell, Cells, View, Fault, side_of, exchange, yielded, granted, put, put_into}
 use Rattle.processor.specs.Rules.{Rules, State, state, Moved, written, moved, moved_by, state_of}
 use Rattle.session.specs.Trials.{tried, restored}
 
@@ -21,27 +21,25 @@ put_back : (m : Cells) (a w x : ℕ) → m a ≡ Some (free x) → put (put m a 
 put_back m a w x h = fun_ext (λ b. put_back_at m a w x b (eqb b a) h refl)
 
 put_same : (m : Cells) (a w : ℕ) → put m a w a ≡ Some (free w)
-put_same m a w = ap (λ (c : Bool). cond c (Some (free w)) (m a)) (eq-eqb a a refl)
+put_same m a w = rw (eq-eqb a a refl) refl
 
 granted_ok : (b : Bool) (w : ℕ) (s : Side) (a x : ℕ) → granted b w s a ≡ Ok x → (b ≡ true) × (w ≡ x)
 granted_ok true w s a x h = (refl, cc)
-granted_ok false w s a x h = absurd (let z : ◌≡◌ {A = ℕ} 0 1 = cc in omega arith)
+granted_ok false w s a x h = cc
 
 yielded_ok : (o : Option Cell) (s : Side) (a x : ℕ) → yielded o s a ≡ Ok x → o ≡ Some (free x)
-yielded_ok None s a x h = absurd (let z : ◌≡◌ {A = ℕ} 0 1 = cc in omega arith)
+yielded_ok None s a x h = cc
 yielded_ok (Some c) s a x h =
     let q = granted_ok c.unlocked c.word s a x h in
-    let f : ℕ → Option Cell = λ w. Some (record { word = w; unlocked = c.unlocked }) in
-    let g : Bool → Option Cell = λ b. Some (record { word = x; unlocked = b }) in
-    ap f q.1 ∙ ap g q.0
+    rw (← q.0, ← q.1) refl
 
 exchange_again : (v : View) (s : Side) (a w : ℕ) → exchange (put_into s v a w) s a ≡ Ok w
-exchange_again v Memory a w = ap (λ (o : Option Cell). yielded o Memory a) (put_same v.memory a w)
-exchange_again v Screen a w = ap (λ (o : Option Cell). yielded o Screen a) (put_same v.screen a w)
+exchange_again v Memory a w = rw (put_same v.memory a w) refl
+exchange_again v Screen a w = rw (put_same v.screen a w) refl
 
 view_back : (v : View) (s : Side) (a w x : ℕ) → side_of s v a ≡ Some (free x) → put_into s (put_into s v a w) a x ≡ v
-view_back v Memory a w x h = ap (λ (m : Cells). view m v.screen v.keys) (put_back v.memory a w x h)
-view_back v Screen a w x h = ap (λ (m : Cells). view v.memory m v.keys) (put_back v.screen a w x h)
+view_back v Memory a w x h = rw (put_back v.memory a w x h) refl
+view_back v Screen a w x h = rw (put_back v.screen a w x h) refl
 
 -- what was moved is undone by what it noted, with the processor q put back
 abbrev pub Undone : {P : Type 0} → State P → Result (Moved P) Fault → Type 0
@@ -74,4 +72,4 @@ module _ {P : Type 0} (s : State P) where
 -- an instruction's entry leads back to the state before it
 pub entry_undoes : {P : Type 0} (r : Rules P) (s : State P) (m : Moved P) → tried r s ≡ Ok m → state_of (restored m.state (record { before = s.processor; undo = m.undo })) ≡ Ok s
 unfolding restored
-entry_undoes {P} r s m e = subst (λ (o : Result (Moved P) Fault). Undone s o) e (undone_tried s r)
+entry_undoes {P} r s m e = rw e at (undone_tried s r)

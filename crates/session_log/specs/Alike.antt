@@ -1,15 +1,16 @@
-use Rattle.std.specs.Prelude.{◌≡◌, ℕ, ◌<◌, List, length, get_or, Ok, Err, Result, slice_index_or}
+use Rattle.std.specs.Prelude.{◌≡◌, ℕ, ◌<◌, List, length, get_or, IfOk, Ok, Err, Result, slice_index_or}
 use Rattle.refusal.specs.declared.Refusal.{Refusal}
 use Rattle.stores.specs.Cells as store
 use Rattle.processor.specs.declared.devices.Devices.{Devices}
-use Rattle.processor.specs.Views.{View, view, cell, cells, keys}
+use Rattle.processor.specs.Views.{View, Places, view, cell, cells, keys}
 use Rattle.processor.specs.Rules.{Rules, State, state}
 use Rattle.session.specs.declared.entry.Entry.{Entry}
 use Rattle.session.specs.declared.state.Session.{Session}
 use Rattle.session.specs.Snapshots.{Snapshot, snapshot}
+use Rattle.session.specs.Opens.{loaded, load_answer}
 use Rattle.session_log.specs.declared.line.Line.{Line}
-use Rattle.session_log.specs.Plain.{after}
-use Rattle.session_log.specs.Logs.{opening}
+use Rattle.session_log.specs.Plain.{fresh, after}
+use Rattle.session_log.specs.Logs.{Logged, opening, opening_answer}
 
 -- cells are alike: the same addresses 0 to 65,535 are present and open and show the same words, whatever else differs
 abbrev pub AlikeCells : store.Cells → store.Locks → store.Cells → store.Locks → Type 0
@@ -63,6 +64,13 @@ pub record Left (P : Type 0) : Type 0 where
 
 abbrev pub left : {P : Type 0} → Result (Session P) Refusal → Stores → List (Entry P) → List (Line P) → Left P
 left a x j ls = record { answer = a; stores = x; slots = j; lines = ls }
+
+-- a log of the lines ls on the stores a with j journal slots, by what it left: it is opened as the tape is loaded there, and an opened one is
+-- the plain session's from the opening on
+pub record LeftBy {P : Type 0} (r : Rules P) (tape : List ℕ) (stack j : ℕ) (a : Stores) (ls : List (Line P)) (x : Left P) : Type 0 where
+  pub places : Places
+  pub opened : opening_answer x.answer ≡ load_answer (loaded places (seen a) tape)
+  pub log : let w = opening r stack (seen a) tape in IfOk x.answer (λ s. Logged r places w j ls x.lines (snapshot s (seen x.stores) x.slots) (fresh w))
 
 -- two openings are accepted or refused alike, but for a refusal's place; where they are accepted, the logs agree
 abbrev pub Agreed : {P : Type 0} → Rules P → State P → State P → Left P → Left P → Result (Session P) Refusal → Result (Session P) Refusal → Type 0

@@ -8,7 +8,7 @@ use session::answers::{Ran, Taken};
 use session::looks::Spot;
 
 // A call on an open session.
-#[derive(Clone, Copy)]
+#[derive(Clone, Copy, Debug, PartialEq, Eq)]
 pub enum Call {
     Run(u32),
     Back(u32),
@@ -17,7 +17,7 @@ pub enum Call {
 }
 
 // What a call that is done answers.
-#[derive(Clone, Copy)]
+#[derive(Clone, Copy, Debug, PartialEq, Eq)]
 pub enum Answer {
     Ran(Ran),
     Taken(Taken),
@@ -27,7 +27,7 @@ pub enum Answer {
 
 // One line: the call that is asked for; then, filled in, its answer (an error marks it refused), and the instructions done and the
 // processor as they stand after it.
-#[derive(Clone, Copy)]
+#[derive(Clone, Copy, Debug, PartialEq, Eq)]
 pub struct Line<P> {
     pub call: Call,
     pub answer: Result<Answer, Refusal>,

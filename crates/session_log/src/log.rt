@@ -15,24 +15,6 @@ use refusal::Refusal;
 use session::entry::Entry;
 use session::state::Session;
 
-// The calls of a log one after another, each line filled in.
-fn serve_all<P: Processor, B: Bus>(
-    session: &mut Session<P>,
-    bus: &mut B,
-    journal: &mut [Entry<P>],
-    lines: &mut [Line<P>],
-)
-    ensures after { snapshot session.new (B.Bus.view bus.new) journal.new
-        ≡ log_after P.Processor.rules lines.old (snapshot session.old (B.Bus.view bus.old) journal.old) }
-    ensures lines { lines.new ≡ log_lines P.Processor.rules (B.Bus.places bus.old) lines.old
-        (snapshot session.old (B.Bus.view bus.old) journal.old) }
-    ensures places { B.Bus.places bus.new ≡ B.Bus.places bus.old }
-{
-    for line in lines.iter_mut() {
-        *line = serve_line(session, bus, journal, *line);
-    }
-}
-
 // A piece of log goes as on the plain session that the session stands as; a call of this does nothing.
 fn a_log_stands<P: Processor, B: Bus>(
     session: &Session<P>,
@@ -66,7 +48,9 @@ pub fn carry_on<P: Processor, B: Bus>(
         (snapshot session.new (B.Bus.view bus.new) journal.new) s }
 {
     a_log_stands(session, bus, journal, lines);
-    serve_all(session, bus, journal, lines);
+    for line in lines.iter_mut() {
+        *line = serve_line(session, bus, journal, *line);
+    }
 }
 
 // The log of a session from its opening on is the plain session's; a call of this does nothing.

@@ -1,6 +1,6 @@
 // Two sessions on one page.
-ghost use Rattle.std.specs.Prelude.{◌≡◌};
-ghost use Rattle.session_log.specs.Alike.{stores, stores_of, left, AlikeAgree};
+ghost use Rattle.std.specs.Prelude.{length};
+ghost use Rattle.session_log.specs.Alike.{stores, stores_of, left, LeftBy, AlikeAgree};
 
 use crate::line::Line;
 use crate::log::replay;
@@ -11,36 +11,20 @@ use session::entry::Entry;
 use session::state::Session;
 use stores::{ReadStore, WriteStore};
 
-// One log after the other.
-fn replay_each<
-    P: Processor,
-    M: WriteStore,
-    S: WriteStore,
-    K: ReadStore,
-    N: WriteStore,
-    T: WriteStore,
-    L: ReadStore,
->(
-    one: &mut Devices<M, S, K>,
-    two: &mut Devices<N, T, L>,
+// A log on devices of any makes.
+fn replay_on<P: Processor, M: WriteStore, S: WriteStore, K: ReadStore>(
+    devices: &mut Devices<M, S, K>,
     journal: &mut [Entry<P>],
-    other: &mut [Entry<P>],
     tape: &[u32],
     stack: u16,
     lines: &mut [Line<P>],
-    rows: &mut [Line<P>],
-) -> (Result<Session<P>, Refusal>, Result<Session<P>, Refusal>)
-    ensures agreed { AlikeAgree P.Processor.rules tape.now stack
-        (stores_of M.ReadStore.shown M.WriteStore.unlocked S.ReadStore.shown S.WriteStore.unlocked K.ReadStore.shown one.old)
-        (stores_of N.ReadStore.shown N.WriteStore.unlocked T.ReadStore.shown T.WriteStore.unlocked L.ReadStore.shown two.old)
-        (left result.0 (stores_of M.ReadStore.shown M.WriteStore.unlocked S.ReadStore.shown S.WriteStore.unlocked K.ReadStore.shown one.new)
-        journal.new lines.new)
-        (left result.1 (stores_of N.ReadStore.shown N.WriteStore.unlocked T.ReadStore.shown T.WriteStore.unlocked L.ReadStore.shown two.new)
-        other.new rows.new) }
+) -> Result<Session<P>, Refusal>
+    ensures { LeftBy P.Processor.rules tape.now stack (length journal.old)
+        (stores_of M.ReadStore.shown M.WriteStore.unlocked S.ReadStore.shown S.WriteStore.unlocked K.ReadStore.shown devices.old) lines.old
+        (left result (stores_of M.ReadStore.shown M.WriteStore.unlocked S.ReadStore.shown S.WriteStore.unlocked K.ReadStore.shown devices.new)
+        journal.new lines.new) }
 {
-    let first = replay(one, journal, tape, stack, lines);
-    let second = replay(two, other, tape, stack, rows);
-    (first, second)
+    replay(devices, journal, tape, stack, lines)
 }
 
 // Two logs on one tape with one stack start, over stores of any two makes and journals of any two lengths. Where memories, screens and
@@ -73,5 +57,7 @@ pub fn replay_both<
         (left result.1 (stores (N.ReadStore.shown two.new.memory) (N.WriteStore.unlocked two.new.memory)
         (T.ReadStore.shown two.new.screen) (T.WriteStore.unlocked two.new.screen) (L.ReadStore.shown two.new.keys)) other.new rows.new) }
 {
-    replay_each(one, two, journal, other, tape, stack, lines, rows)
+    let first = replay_on(one, journal, tape, stack, lines);
+    let second = replay_on(two, other, tape, stack, rows);
+    (first, second)
 }

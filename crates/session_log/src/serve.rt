@@ -6,78 +6,13 @@ ghost use Rattle.session_log.specs.Plain.{Plain};
 ghost use Rattle.session_log.specs.Stands.{Stands};
 ghost use Rattle.session_log.specs.Logs.{Answered, CallStands};
 ghost use Rattle.session_log.specs.Replies.{told_line};
-ghost use Rattle.session_log.specs.Serving.{by_run, by_back, serves, line_by};
+ghost use Rattle.session_log.specs.Serving.{serves, line_by};
 
 use crate::line::{Answer, Call, Line};
 use processor::bus::{Bus, Processor};
 use refusal::Refusal;
 use session::entry::Entry;
 use session::state::Session;
-
-// A run.
-fn run_call<P: Processor, B: Bus>(
-    session: &mut Session<P>,
-    bus: &mut B,
-    journal: &mut [Entry<P>],
-    count: u32,
-) -> Result<Answer, Refusal>
-    ensures answer { result ≡ told_line (B.Bus.places bus.old)
-        (by_run P.Processor.rules count (snapshot session.old (B.Bus.view bus.old) journal.old)).reply }
-    ensures after { snapshot session.new (B.Bus.view bus.new) journal.new
-        ≡ (by_run P.Processor.rules count (snapshot session.old (B.Bus.view bus.old) journal.old)).after }
-    ensures places { B.Bus.places bus.new ≡ B.Bus.places bus.old }
-{
-    match session.run(bus, journal, count) {
-        Ok(ran) => Ok(Answer::Ran(ran)),
-        Err(refusal) => Err(refusal),
-    }
-}
-
-// A back.
-fn back_call<P: Processor, B: Bus>(
-    session: &mut Session<P>,
-    bus: &mut B,
-    journal: &[Entry<P>],
-    count: u32,
-) -> Result<Answer, Refusal>
-    ensures answer { result ≡ told_line (B.Bus.places bus.old)
-        (by_back count (snapshot session.old (B.Bus.view bus.old) journal.now)).reply }
-    ensures after { snapshot session.new (B.Bus.view bus.new) journal.now
-        ≡ (by_back count (snapshot session.old (B.Bus.view bus.old) journal.now)).after }
-    ensures places { B.Bus.places bus.new ≡ B.Bus.places bus.old }
-{
-    match session.back(bus, journal, count) {
-        Ok(taken) => Ok(Answer::Taken(taken)),
-        Err(refusal) => Err(refusal),
-    }
-}
-
-// The session's own call.
-fn dispatch<P: Processor, B: Bus>(
-    session: &mut Session<P>,
-    bus: &mut B,
-    journal: &mut [Entry<P>],
-    call: Call,
-) -> Result<Answer, Refusal>
-    ensures answer { result ≡ told_line (B.Bus.places bus.old)
-        (serves P.Processor.rules call (snapshot session.old (B.Bus.view bus.old) journal.old)).reply }
-    ensures after { snapshot session.new (B.Bus.view bus.new) journal.new
-        ≡ (serves P.Processor.rules call (snapshot session.old (B.Bus.view bus.old) journal.old)).after }
-    ensures places { B.Bus.places bus.new ≡ B.Bus.places bus.old }
-{
-    match call {
-        Call::Run(count) => run_call(session, bus, journal, count),
-        Call::Back(count) => back_call(session, bus, journal, count),
-        Call::Forget => {
-            session.forget();
-            Ok(Answer::Forgotten)
-        }
-        Call::Look(spot) => match session.look(bus, spot) {
-            Ok(word) => Ok(Answer::Word(word)),
-            Err(refusal) => Err(refusal),
-        },
-    }
-}
 
 // A call goes as on the plain session that the session stands as; a call of this does nothing.
 fn a_call_stands<P: Processor, B: Bus>(
@@ -95,6 +30,7 @@ fn a_call_stands<P: Processor, B: Bus>(
 
 // One call on an open session. Where the session stands as some plain session, the call answers as that one does, and leaves the session
 // standing as that one after the call.
+#[tactic(auto, unfolding(crate::specs::Serving::by_run, crate::specs::Serving::by_back))]
 pub fn serve<P: Processor, B: Bus>(
     session: &mut Session<P>,
     bus: &mut B,
@@ -112,7 +48,15 @@ pub fn serve<P: Processor, B: Bus>(
         (snapshot session.new (B.Bus.view bus.new) journal.new) s }
 {
     a_call_stands(session, bus, journal, call);
-    dispatch(session, bus, journal, call)
+    match call {
+        Call::Run(count) => session.run(bus, journal, count).map(Answer::Ran),
+        Call::Back(count) => session.back(bus, journal, count).map(Answer::Taken),
+        Call::Forget => {
+            session.forget();
+            Ok(Answer::Forgotten)
+        }
+        Call::Look(spot) => session.look(bus, spot).map(Answer::Word),
+    }
 }
 
 // A line's call, and the line filled in.
@@ -128,11 +72,11 @@ pub(crate) fn serve_line<P: Processor, B: Bus>(
         ≡ (serves P.Processor.rules line.call (snapshot session.old (B.Bus.view bus.old) journal.old)).after }
     ensures places { B.Bus.places bus.new ≡ B.Bus.places bus.old }
 {
-    let answer = dispatch(session, bus, journal, line.call);
+    let answer = serve(session, bus, journal, line.call);
     Line {
-        call: line.call,
         answer,
         count: session.count(),
         processor: session.processor(),
+        ..line
     }
 }

@@ -1,23 +1,23 @@
-use Rattle.std.proofs.Common.{sym, ◌∙◌}
+use Rattle.std.proofs.Common.{◌-◌, ◌∙◌, arith, rules}
 use Rattle.icmc.specs.Steps.{machine_rules}
 use Rattle.long_run.proofs.RoundLaws.{all, goes, stands}
 use Rattle.long_run.proofs.rounds.run_rounds.Goals as goal
 
-pub returns-then-not-goes_on : goal.returns-then-not-goes_on
-returns-then-not-goes_on g c =
-    let l = c.loop-left in
+pub returns-then-ne : goal.returns-then-ne
+returns-then-ne g c =
+    let l = c.loop in
     let e = c.round-stop.ensures in
-    let x = stands machine_rules _ 1000 _ l.invariant.1 l.left _ _ _ _ c.loop-left-test.true l.invariant.0 e.stop e.after (sym c.if-not-goes_on.ensures) in
+    let x = stands machine_rules _ 1000 _ l.invariant.1 1000 l.counter _ _ _ _ c.loop-test.true l.invariant.0 e.stop e.after (search rules) in
     record { stop = x.0; after = x.1; places = e.places ∙ l.invariant.1 }
 
-pub loop-left-preserved : goal.loop-left-preserved
-loop-left-preserved g c =
-    let l = c.loop-left in
+pub loop-preserved : goal.loop-preserved
+loop-preserved g c =
+    let l = c.loop in
     let e = c.round-stop.ensures in
-    (goes machine_rules _ 1000 _ l.invariant.1 l.left _ _ _ _ c.loop-left-test.true l.invariant.0 e.stop e.after (sym c.if-not-goes_on.ensures), e.places ∙ l.invariant.1)
+    (goes machine_rules _ 1000 _ l.invariant.1 1000 l.counter _ _ _ _ c.loop-test.true l.invariant.0 e.stop e.after (search rules), e.places ∙ l.invariant.1)
 
 pub returns : goal.returns
 returns g c =
-    let l = c.loop-left in
-    let x = all machine_rules _ 1000 l.left _ _ c.loop-left-test.false l.invariant.0 in
+    let l = c.loop in
+    let x = all machine_rules _ 1000 (1000 - l.counter) _ _ (omega arith) l.invariant.0 in
     record { stop = x.0; after = x.1; places = l.invariant.1 }

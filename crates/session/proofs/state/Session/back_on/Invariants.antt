@@ -11,7 +11,3 @@ invariant-loop-done g l =
     × (g.B.Bus.places l.bus ≡ g.B.Bus.places l.initial.bus)
     × (l.count - l.done ≤ l.self.journal.used)
     × (0 < l.count → l.self.journal.used ≤ length l.journal)
-    × (l.done ≤ l.count)
-
-abbrev pub decreases-loop-done : goal.decreases-loop-done
-decreases-loop-done g l = l.count - l.done

@@ -10,7 +10,3 @@ invariant-loop-done g l =
     ≡ runs_on g.P.Processor.rules l.count 0 (snapshot l.initial.self (g.B.Bus.view l.initial.bus) l.initial.journal))
     × (g.B.Bus.places l.bus ≡ g.B.Bus.places l.initial.bus)
     × (l.self.count + (l.count - l.done) ≤ 4000000000)
-    × (l.done ≤ l.count)
-
-abbrev pub decreases-loop-done : goal.decreases-loop-done
-decreases-loop-done g l = l.count - l.done

@@ -1,7 +1,7 @@
 use Rattle.std.proofs.Common.{◌<◌, ◌≤◌, length, ◌∙◌, arith}
 use Rattle.session.specs.Snapshots.{snapshot}
 use Rattle.session_log.proofs.LogLaws.{after_more, lines_more, rest_more, after_all, lines_all}
-use Rattle.session_log.proofs.log.serve_all.Goals as goal
+use Rattle.session_log.proofs.log.carry_on.Goals as goal
 
 pub loop-line-preserved : goal.loop-line-preserved
 loop-line-preserved g c =
@@ -31,8 +31,11 @@ returns g c =
     let d = snapshot l.session (g.B.Bus.view l.bus) l.journal in
     let ms = c.args.lines.now in
     let k : length l.lines ≤ l.line-index = omega (arith, c.loop-line-test.false, l.auto.lines) in
+    let after = after_all R p d l.lines ms l.line-index c.loop-line-test.false k _ l.invariant.0 in
+    let lines = lines_all R p d l.lines ms l.line-index c.loop-line-test.false k _ l.invariant.1 in
     record {
-      after = after_all R p d l.lines ms l.line-index c.loop-line-test.false k _ l.invariant.0;
-      lines = lines_all R p d l.lines ms l.line-index c.loop-line-test.false k _ l.invariant.1;
+      after = after;
+      lines = lines;
       places = l.invariant.3;
+      stands = λ w s i. rw (after, lines) (c.a_log_stands.ensures.stands w s i);
     }

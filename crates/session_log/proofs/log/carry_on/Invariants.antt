@@ -1,7 +1,7 @@
 use Rattle.std.proofs.Common.{◌≡◌, ◌++◌, take, drop}
 use Rattle.session.specs.Snapshots.{snapshot}
 use Rattle.session_log.specs.Serving.{log_after, log_lines}
-use Rattle.session_log.proofs.log.serve_all.Given as goal
+use Rattle.session_log.proofs.log.carry_on.Given as goal
 
 -- the rest of the log is the whole log
 abbrev pub invariant-loop-line : goal.invariant-loop-line
