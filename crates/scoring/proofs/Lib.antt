@@ -1,3 +1,2 @@
 mod PlacedLaws
-mod TapedLaws
 mod OpenLaws

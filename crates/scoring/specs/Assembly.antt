@@ -47,9 +47,9 @@ words_then (Ok g) p words = words_after p words
 words_then (Err e) p words = words
 
 -- what assembling a page leaves of the label slots and the words
-pub record Translated (bytes : List ℕ) (labels labels' : List Label) (words words' : List ℕ) : Type 0 where
-  pub labels : labels' ≡ labels_then (gathering bytes (length labels)) (program_of bytes (length labels) (length words)) labels
-  pub words : words' ≡ words_then (gathering bytes (length labels)) (program_of bytes (length labels) (length words)) words
+pub record Translated (bytes : List ℕ) (slots slots' : List Label) (ws ws' : List ℕ) : Type 0 where
+  pub labels : slots' ≡ labels_then (gathering bytes (length slots)) (program_of bytes (length slots) (length ws)) slots
+  pub words : ws' ≡ words_then (gathering bytes (length slots)) (program_of bytes (length slots) (length ws)) ws
 
 -- words are a page's program: each line's stand at its address, and each name of the page stands for its line
 pub record PagePlaced (bytes program : List ℕ) : Type 0 where
