@@ -14,7 +14,7 @@ pub(crate) const SP: Name = Name {
     letters: *b"sp                              ",
 };
 
-// Names are filled up with blanks.
+// Names are filled up with blanks. A table and no match: it is what the definition is, and the look-up is one `find`.
 const ROWS: &[([u8; 32], Form)] = &[
     (
         *b"nop                             ",
