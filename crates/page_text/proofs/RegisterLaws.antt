@@ -70,6 +70,27 @@ then_after (Err c) h n f = refl
 number_at : (rs : List Register) (i : ℕ) (d : Register) → i < length rs → (get_or rs i d).number ≡ slice_index (map (λ r. r.number) rs) i
 number_at rs i d h = sym (get_or-map (λ r. r.number) rs i d 0 h)
 
+-- three registers read at once are three read one by one, and so are two
+module _ {B : Type 0} (ss : List Symbol) where
+  two_by : (f : ℕ → ℕ → List Symbol → Result B Cause)
+      → then (registers 2 ss) (λ ns ss. f (slice_index ns 0) (slice_index ns 1) ss)
+      ≡ then (register ss) (λ x ss. then (comma ss) (λ _ ss. then (register ss) (λ y ss. f x y ss)))
+  two_by f =
+      then_register (register ss) (more_registers 1) _
+      ∙ then_more (register ss) _ _ (λ x ss. then_after (comma ss) register 0 _)
+
+  three_by : (f : ℕ → ℕ → ℕ → List Symbol → Result B Cause)
+      → then (registers 3 ss) (λ ns ss. f (slice_index ns 0) (slice_index ns 1) (slice_index ns 2) ss)
+      ≡ then (register ss) (λ x ss. then (comma ss) (λ _ ss. then (register ss) (λ y ss. then (comma ss) (λ _ ss. then (register ss) (λ z ss. f x y z ss)))))
+  three_by f =
+      then_register (register ss) (more_registers 2) _
+      ∙ then_more (register ss) _ _ (λ x ss. then_after (comma ss) register 1 _
+      ∙ then_more (comma ss) _ _ (λ _ ss. then_more (register ss) _ _ (λ y ss. then_after (comma ss) register 0 _)))
+
+  pub three_refused : (f : ℕ → ℕ → ℕ → List Symbol → Result B Cause) (c : Cause) → registers 3 ss ≡ Err c
+      → Err c ≡ then (register ss) (λ x ss. then (comma ss) (λ _ ss. then (register ss) (λ y ss. then (comma ss) (λ _ ss. then (register ss) (λ z ss. f x y z ss)))))
+  three_refused f c h = ap (λ (p : Part (List ℕ)). then p (λ ns ss. f (slice_index ns 0) (slice_index ns 1) (slice_index ns 2) ss)) (sym h) ∙ three_by f
+
 module _ {B : Type 0} (ss ts : List Symbol) (rs : List Register) where
   pub two_registers : (f : ℕ → ℕ → List Symbol → Result B Cause) (d e : Register) → length rs ≡ 2 → registers 2 ss ≡ Ok (map (λ r. r.number) rs, ts)
       → f (get_or rs 0 d).number (get_or rs 1 e).number ts ≡ then (register ss) (λ x ss. then (comma ss) (λ _ ss. then (register ss) (λ y ss. f x y ss)))
@@ -77,8 +98,7 @@ module _ {B : Type 0} (ss ts : List Symbol) (rs : List Register) where
       ap (λ x. f x (get_or rs 1 e).number ts) (number_at rs 0 d (omega arith))
       ∙ (ap (λ y. f (slice_index (map (λ r. r.number) rs) 0) y ts) (number_at rs 1 e (omega arith))
       ∙ (ap (λ (p : Part (List ℕ)). then p (λ ns ss. f (slice_index ns 0) (slice_index ns 1) ss)) (sym h)
-      ∙ (then_register (register ss) (more_registers 1) _
-      ∙ then_more (register ss) _ _ (λ x ss. then_after (comma ss) register 0 _))))
+      ∙ two_by ss f))
 
   pub three_registers : (f : ℕ → ℕ → ℕ → List Symbol → Result B Cause) (d e k : Register) → length rs ≡ 3 → registers 3 ss ≡ Ok (map (λ r. r.number) rs, ts)
       → f (get_or rs 0 d).number (get_or rs 1 e).number (get_or rs 2 k).number ts
@@ -88,6 +108,4 @@ module _ {B : Type 0} (ss ts : List Symbol) (rs : List Register) where
       ∙ (ap (λ y. f (slice_index (map (λ r. r.number) rs) 0) y (get_or rs 2 k).number ts) (number_at rs 1 e (omega arith))
       ∙ (ap (λ z. f (slice_index (map (λ r. r.number) rs) 0) (slice_index (map (λ r. r.number) rs) 1) z ts) (number_at rs 2 k (omega arith))
       ∙ (ap (λ (p : Part (List ℕ)). then p (λ ns ss. f (slice_index ns 0) (slice_index ns 1) (slice_index ns 2) ss)) (sym h)
-      ∙ (then_register (register ss) (more_registers 2) _
-      ∙ then_more (register ss) _ _ (λ x ss. then_after (comma ss) register 1 _
-      ∙ then_more (comma ss) _ _ (λ _ ss. then_more (register ss) _ _ (λ y ss. then_after (comma ss) register 0 _)))))))
+      ∙ three_by ss f)))

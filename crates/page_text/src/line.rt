@@ -32,6 +32,7 @@ fn read_statement<'a>(tokens: &mut Tokens<'a>) -> Result<Statement<'a>, Cause>
 }
 
 // What a line says.
+#[tactic(auto, unfolding(crate::specs::Sayings::line_read))]
 pub fn read_line(line: &[u8]) -> Line<'_>
     ensures { reading_of result ≡ line_read line.now }
 {

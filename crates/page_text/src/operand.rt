@@ -1,4 +1,4 @@
-// The parts of a statement.
+// The parts of a statement. Each kind of token has a match of its own: a shared one would be handed the same match as a closure.
 ghost use Rattle.std.specs.Option.{option_map};
 ghost use Rattle.std.specs.Prelude.{◌≡◌, map};
 ghost use Rattle.page_tokens.specs.Symbols.{symbol_of};

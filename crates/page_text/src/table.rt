@@ -14,8 +14,8 @@ pub(crate) const SP: Name = Name {
     letters: *b"sp                              ",
 };
 
-// Names are filled up with blanks.
-const ROWS: [([u8; 32], Form); 71] = [
+// Names are filled up with blanks. A table and no match: it is what the definition is, and the look-up is one `find`.
+const ROWS: &[([u8; 32], Form)] = &[
     (
         *b"nop                             ",
         Form::Alone(NoRegisters::Nop),
@@ -288,6 +288,7 @@ const ROWS: [([u8; 32], Form); 71] = [
 ];
 
 // The form of the statement with a name, if there is one.
+#[tactic(auto, unfolding(crate::specs::Table::form_named))]
 pub(crate) fn form_named(name: &Name) -> Option<Form>
     ensures { result ≡ form_named name.now }
 {

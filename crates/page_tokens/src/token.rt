@@ -26,7 +26,7 @@ fn malformed<'a>() -> (Token<'a>, &'a [u8])
     (Token::Malformed, &[])
 }
 
-// The value of up to five digits.
+// The value of up to five digits. A loop and no fold, whose closure would not know how large the value so far can be.
 fn value(digits: &[u8]) -> u32
     requires { length digits.now ≤ 5 }
     ensures { result ≡ decimal 0 digits.now }
