@@ -1,5 +1,5 @@
 // The name at a line's beginning.
-ghost use Rattle.std.specs.Prelude.{◌≡◌, Some, unwrap_or};
+ghost use Rattle.std.specs.Prelude.{◌≡◌, unwrap_or};
 ghost use Rattle.page_tokens.specs.Symbols.{symbols};
 ghost use Rattle.page_tokens.specs.Labels.{label_in, past_label};
 
