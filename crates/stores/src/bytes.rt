@@ -3,7 +3,7 @@ ghost use Rattle.std.specs.Prelude.{◌≡◌};
 ghost use Rattle.stores.specs.Cells.{writes};
 ghost use Rattle.stores.specs.Memories.{all_open, itself, paired, bytes_after};
 
-use crate::lent::cell;
+use crate::lent::{cell, present};
 use crate::{ReadStore, WriteStore};
 use refusal::Refusal;
 
@@ -49,7 +49,6 @@ impl WriteStore for Bytes<'_> {
     }
 
     fn probe(&self, at: u16) -> Result<(), Refusal> {
-        self.read(at)?;
-        Ok(())
+        present(self, at)
     }
 }

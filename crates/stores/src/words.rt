@@ -2,7 +2,7 @@
 ghost use Rattle.std.specs.Prelude.{◌≡◌};
 ghost use Rattle.stores.specs.Memories.{all_open, itself, listed};
 
-use crate::lent::cell;
+use crate::lent::{cell, present};
 use crate::{ReadStore, WriteStore};
 use refusal::Refusal;
 
@@ -35,7 +35,6 @@ impl WriteStore for Words<'_> {
     }
 
     fn probe(&self, at: u16) -> Result<(), Refusal> {
-        self.read(at)?;
-        Ok(())
+        present(self, at)
     }
 }
