@@ -92,7 +92,11 @@ symbols_first bs =
     enough (length bs) (suc (length bs)) bs (omega arith) (omega arith)
     ∙ enough_by (first_token bs) _ _ (length bs) (takes_first bs) (λ cs l. enough (length bs) (length cs) cs (omega arith) (omega arith))
 
--- the same of what is read of the bytes after the blanks
-pub symbols_front : (bs cs : List ℕ) (r : Option (Token × Bor (List ℕ))) → cs ≡ drop (prefix_len (of_class Blank) bs) bs → front_of r ≡ front_piece cs → symbols bs ≡ piece_first (front_of r) symbols
+-- what is read of the bytes after the blanks is the first token
+pub token_front : (bs cs : List ℕ) (r : Option (Token × Bor (List ℕ))) → cs ≡ drop (prefix_len (of_class Blank) bs) bs → front_of r ≡ front_piece cs → first_token bs ≡ front_of r
 unfolding first_token
-symbols_front bs cs r e h = symbols_first bs ∙ ap (λ (o : Option Piece). piece_first o symbols) (sym (h ∙ ap front_piece e))
+token_front bs cs r e h = sym (h ∙ ap front_piece e)
+
+-- and the first of the tokens of the whole
+pub symbols_front : (bs cs : List ℕ) (r : Option (Token × Bor (List ℕ))) → cs ≡ drop (prefix_len (of_class Blank) bs) bs → front_of r ≡ front_piece cs → symbols bs ≡ piece_first (front_of r) symbols
+symbols_front bs cs r e h = symbols_first bs ∙ ap (λ (o : Option Piece). piece_first o symbols) (token_front bs cs r e h)

@@ -1,4 +1,7 @@
-use Rattle.std.specs.Prelude.{ℕ, cond, List, [], ◌∷◌, ◌==◌}
+use Rattle.std.specs.Prelude.{ℕ, cond, List, [], ◌∷◌, drop, ◌==◌}
+use Rattle.std.specs.List.{prefix_len}
+use Rattle.page_tokens.specs.declared.class.Class.TheVariants.{InLine}
+use Rattle.page_tokens.specs.Classes.{of_class}
 
 -- a byte more at the front of the first line
 abbrev pub in_first : ℕ → List (List ℕ) → List (List ℕ)
@@ -9,3 +12,7 @@ in_first b (l ∷ ls) = (b ∷ l) ∷ ls
 abbrev pub lines : List ℕ → List (List ℕ)
 lines [] = []
 lines (b ∷ bs) = cond (b == 10) ([] ∷ lines bs) (in_first b (lines bs))
+
+-- what follows the first line and its end
+abbrev pub after_line : List ℕ → List ℕ
+after_line bs = drop 1 (drop (prefix_len (of_class InLine) bs) bs)

@@ -1,7 +1,7 @@
 // The name at a line's beginning.
-ghost use Rattle.std.specs.Prelude.{◌≡◌, IsNone, unwrap_or};
+ghost use Rattle.std.specs.Prelude.{◌≡◌, MatchOption, unwrap_or};
 ghost use Rattle.page_tokens.specs.Symbols.{symbols};
-ghost use Rattle.page_tokens.specs.Labels.{label_in, past_label};
+ghost use Rattle.page_tokens.specs.Labels.{label_in, past_label, past_token};
 
 use crate::name::Name;
 use crate::token::{Token, Tokens};
@@ -27,7 +27,8 @@ impl<'a> Tokens<'a> {
     // The name that stands before a colon, both of which are then read; where no colon stands, nothing is read.
     pub fn label(&mut self) -> Option<Name>
         ensures name { result ≡ label_in (symbols self.old.rest.now) }
-        ensures back { IsNone result → self.new.rest.now ≡ self.old.rest.now }
+        ensures bytes { MatchOption result (self.new.rest.now ≡ self.old.rest.now)
+            (λ _. self.new.rest.now ≡ past_token (past_token self.old.rest.now)) }
         ensures left { symbols self.new.rest.now ≡ past_label (label_in (symbols self.old.rest.now)) (symbols self.old.rest.now) }
     {
         let back = Some(*self);

@@ -1,9 +1,16 @@
 // The lines of a text.
-ghost use Rattle.std.specs.Prelude.{◌≡◌, length};
+ghost use Rattle.std.specs.Prelude.{◌≡◌, length, drop, OnSome};
 ghost use Rattle.std.specs.Iterator.{YieldsFirstRef, at_most};
-ghost use Rattle.page_tokens.specs.Lines.{lines};
+ghost use Rattle.page_tokens.specs.Lines.{lines, after_line};
 
 use crate::class::{Class, split_front};
+
+// What follows a line's end; at the end of a text it has none.
+fn past_end(ended: &[u8]) -> &[u8]
+    ensures { result.now ≡ drop 1 ended.now }
+{
+    ended.get(1..).unwrap_or(ended)
+}
 
 // The lines that are left of a text, without their ends.
 #[derive(Clone, Copy, Debug)]
@@ -22,7 +29,7 @@ impl<'a> Lines<'a> {
 impl<'a> Iterator for Lines<'a> {
     type Item = &'a [u8];
 
-    ghost next_gives = { YieldsFirstRef (λ s. lines s.rest.now) };
+    ghost next_gives = { λ s r t. YieldsFirstRef (λ s. lines s.rest.now) s r t × OnSome r (t.rest.now ≡ after_line s.rest.now) };
 
     ghost remaining = { λ s. at_most (length s.rest.now) };
 
@@ -31,10 +38,7 @@ impl<'a> Iterator for Lines<'a> {
             return None;
         }
         let (line, ended) = split_front(self.rest, Class::InLine);
-        self.rest = match ended.split_first() {
-            Some((_, rest)) => rest,
-            None => ended,
-        };
+        self.rest = past_end(ended);
         Some(line)
     }
 }

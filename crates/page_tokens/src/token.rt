@@ -1,7 +1,7 @@
 // The tokens of a line.
-ghost use Rattle.std.specs.Prelude.{◌≡◌, ◌≤◌, length};
+ghost use Rattle.std.specs.Prelude.{◌≡◌, ◌≤◌, length, Some, IfSome};
 ghost use Rattle.std.specs.Iterator.{YieldsFirstBy, item_count};
-ghost use Rattle.page_tokens.specs.Symbols.{decimal, symbol_of, piece_of, front_of, spoiled, number_piece, quoted_piece, word_piece, front_piece, symbols};
+ghost use Rattle.page_tokens.specs.Symbols.{decimal, symbol_of, piece_of, front_of, spoiled, number_piece, quoted_piece, word_piece, front_piece, first_token, symbols};
 
 use crate::class::{Class, split_front};
 use crate::name::Name;
@@ -33,7 +33,7 @@ fn value(digits: &[u8]) -> u32
 {
     let mut value = 0;
     for digit in digits {
-        value = value * 10 + digit.saturating_sub(b'0') as u32;
+        value = value * 10 + u32::from(digit.saturating_sub(b'0'));
     }
     value
 }
@@ -105,7 +105,8 @@ impl<'a> Tokens<'a> {
 impl<'a> Iterator for Tokens<'a> {
     type Item = Token<'a>;
 
-    ghost next_gives = { YieldsFirstBy symbol_of (λ s. symbols s.rest.now) };
+    ghost next_gives = { λ s r t. YieldsFirstBy symbol_of (λ s. symbols s.rest.now) s r t
+        × IfSome r (λ token. first_token s.rest.now ≡ Some (symbol_of token, t.rest.now)) };
 
     ghost remaining = { item_count (λ s. symbols s.rest.now) };
 
