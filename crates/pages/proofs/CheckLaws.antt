@@ -18,7 +18,7 @@ use Rattle.pages.proofs.HeldLaws.{begins_itself, begins_holds, begins_first}
 -- a result that is done
 pub ok_some : (x : Result Gain Cause) (g : Gain) → result_ok x ≡ Some g → x ≡ Ok g
 ok_some (Ok h) g e = let d : h ≡ g = cc in ap Ok d
-ok_some (Err c) g e = absurd (let z : ◌≡◌ {A = ℕ} 0 1 = cc in omega arith)
+ok_some (Err c) g e = absurd cc
 
 -- a line with no name
 pub held_unnamed : (slots : List Label) (k : ℕ) (g : Gain) (x : Result Gain Cause) → x ≡ Ok g → g.label ≡ None → k ≤ length slots
@@ -37,11 +37,11 @@ module _ (slots : List Label) where
       let F : Progress → List Label × ℕ = λ x. (take x.labels slots, x.size) in
       let G : List Label → List Label × ℕ = λ xs. (xs, a) in
       ap G (sym (h refl)) ∙ ap F q
-  some_by false ms a p h e = absurd (let z : ◌≡◌ {A = ℕ} 0 1 = cc in omega arith)
+  some_by false ms a p h e = absurd cc
 
   pub held_some : (x : Result (List Label × ℕ) Cause) (p : Progress) → held_line slots x ≡ Some p → x ≡ Ok (take p.labels slots, p.size)
   held_some (Ok y) p e = ap Ok (some_by (begins_with y.0 slots) y.0 y.1 p (λ h. (begins_holds y.0 slots h).0) e)
-  held_some (Err c) p e = absurd (let z : ◌≡◌ {A = ℕ} 0 1 = cc in omega arith)
+  held_some (Err c) p e = absurd cc
 
   -- a label that is not in its slot is missed at the end too
   missed : (b c : Bool) (p : Progress) → (c ≡ true → b ≡ true) → b ≡ false → cond c (Some p) None ≡ None
@@ -55,7 +55,7 @@ module _ (slots : List Label) where
   still_missed ms (Err c) f e = refl
 
   not_begun : (b : Bool) (p : Progress) → cond b (Some p) None ≡ None → b ≡ false
-  not_begun true p e = absurd (let z : ◌≡◌ {A = ℕ} 0 1 = cc in omega arith)
+  not_begun true p e = absurd cc
   not_begun false p e = refl
 
   module _ (n : ℕ) (rest : List Reading) (i : ℕ) where

@@ -11,5 +11,5 @@ found_by P true l m o h k e = let s : l ≡ m = cc in rw s at h
 found_by P false l m o h k e = k e
 
 pub found : (P : Label → Type 0) (ls : List Label) (n : Name) (l : Label) → AllByRecursion P ls → find_label ls n ≡ Some l → P l
-found P [] n l h e = absurd (let z : ◌≡◌ {A = ℕ} 0 1 = cc in omega arith)
+found P [] n l h e = absurd cc
 found P (m ∷ ls) n l h e = found_by P (same_name m.name n) m l (find_label ls n) h.0 (λ d. found P ls n l h.1 d) e

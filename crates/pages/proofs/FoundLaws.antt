@@ -24,14 +24,14 @@ found_by slots true g p h e =
     let s : g.size ≡ p.size = ap (λ (x : Progress). x.size) d in
     let t : take p.labels slots ≡ g.labels = ap (λ (m : ℕ). take m slots) (sym n) ∙ k.0 in
     record { all = rw (t, ← s); within = omega (arith, n, k.1); begin = rw t h }
-found_by slots false g p h e = absurd (let z : ◌≡◌ {A = ℕ} 0 1 = cc in omega arith)
+found_by slots false g p h e = absurd cc
 
 pub found_all : (slots : List Label) (w : Result Gathering Refusal) (p : Progress) → Some p ≡ held slots w → Found slots p w
 found_all slots (Ok g) p e = found_by slots (begins_with g.labels slots) g p refl (sym e)
-found_all slots (Err c) p e = absurd (let z : ◌≡◌ {A = ℕ} 0 1 = cc in omega arith)
+found_all slots (Err c) p e = absurd cc
 
 not_found_by : (bytes : List ℕ) (slots : List Label) (words : ℕ) (b : Bool) (g : Gathering) (p : Progress) → None ≡ cond b (Some p) None → cond b (placing_in bytes words g) (Err (refused NotGathered 0)) ≡ Err (refused NotGathered 0)
-not_found_by bytes slots words true g p e = absurd (let z : ◌≡◌ {A = ℕ} 0 1 = cc in omega arith)
+not_found_by bytes slots words true g p e = absurd cc
 not_found_by bytes slots words false g p e = refl
 
 pub not_found : (bytes : List ℕ) (slots : List Label) (words : ℕ) (w : Result Gathering Refusal) → None ≡ held slots w → placing_by bytes slots words w ≡ Err (refused NotGathered 0)
@@ -41,7 +41,7 @@ not_found bytes slots words (Err c) e = refl
 -- a text that was gathered is short enough
 accepted : (b : Bool) (x : Result Gathering Refusal) (g : Gathering) → cond b x (Err (refused TextTooLong 0)) ≡ Ok g → (b ≡ true) × (x ≡ Ok g)
 accepted true x g e = (refl, e)
-accepted false x g e = absurd (let z : ◌≡◌ {A = ℕ} 0 1 = cc in omega arith)
+accepted false x g e = absurd cc
 
 module _ (bytes : List ℕ) (slots : List Label) (p : Progress) (words : ℕ) (f : Found slots p (gathering bytes (length slots))) where
   abbrev all : Gathering

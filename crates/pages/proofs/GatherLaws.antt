@@ -20,7 +20,7 @@ module _ (n : ℕ) (rs : List Reading) (ls : List Label) (a i : ℕ) (w : Result
   gathers_refused m r rest e k p q = refused_by rest (gained n ls a r) e (rw k at q) ∙ (rw p at whole)
     where
       refused_by : (rest : List Reading) (x : Result Gain Cause) (e : Refusal) → on_line i x ≡ Err e → Err e ≡ goes_on rest (shelved ls x)
-      refused_by rest (Ok g) e q = absurd (let z : ◌≡◌ {A = ℕ} 0 1 = cc in omega arith)
+      refused_by rest (Ok g) e q = absurd cc
       refused_by rest (Err c) e q = let d : refused c i ≡ e = cc in ap Err (sym d)
 
   pub gathers_all : rs ≡ [] → w ≡ Ok (gathered ls a)

@@ -19,11 +19,11 @@ use Rattle.pages.proofs.OnLaws.{goes, grows}
 -- a name that was accepted is new
 no_fault : (o : Option Cause) (x : Result Gain Cause) (g : Gain) → unless o x ≡ Ok g → o ≡ None
 no_fault None x g e = refl
-no_fault (Some c) x g e = absurd (let z : ◌≡◌ {A = ℕ} 0 1 = cc in omega arith)
+no_fault (Some c) x g e = absurd cc
 
 not_known : (f : Option Label) (b : Bool) → cond (is_some f) (Some DuplicateName) (cond b None (Some LabelSlotsFull)) ≡ None → f ≡ None
 not_known None b e = refl
-not_known (Some l) b e = absurd (let z : ◌≡◌ {A = ℕ} 0 1 = cc in omega arith)
+not_known (Some l) b e = absurd cc
 
 new : (n : ℕ) (ls : List Label) (a : ℕ) (r : Reading) (g : Gain) (m : Name) → gained n ls a r ≡ Ok g → r.name ≡ Some m → find_label ls m ≡ None
 unfolding gained
@@ -36,7 +36,7 @@ same_self : (n : Name) → same_name n n ≡ true
 same_self n = (bytes_eq-Decides n.letters n.letters).1 refl
 
 behind_by : (b : Bool) (m l : Label) (o p : Option Label) → (o ≡ None → p ≡ Some l) → cond b (Some m) o ≡ None → cond b (Some m) p ≡ Some l
-behind_by true m l o p f e = absurd (let z : ◌≡◌ {A = ℕ} 0 1 = cc in omega arith)
+behind_by true m l o p f e = absurd cc
 behind_by false m l o p f e = f e
 
 find_behind : (ls ys : List Label) (l : Label) → find_label ls l.name ≡ None → find_label (ls ++ l ∷ ys) l.name ≡ Some l

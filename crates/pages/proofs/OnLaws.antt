@@ -34,15 +34,15 @@ says_sized true n a s g t e =
       next = ap (λ (x : Gain). x.next) (sym h);
       few = leb-true (a + size_of s) 65536 t;
     }
-says_sized false n a s g t e = absurd (let z : ◌≡◌ {A = ℕ} 0 1 = cc in omega arith)
+says_sized false n a s g t e = absurd cc
 
 says_stated : (n : Option Name) (a : ℕ) (x : Result Saying Cause) (g : Gain) → stated n a x ≡ Ok g → Says (record { name = n; saying = x }) a g
 says_stated n a (Ok s) g e = says_sized (leb (a + size_of s) 65536) n a s g refl e
-says_stated n a (Err c) g e = absurd (let z : ◌≡◌ {A = ℕ} 0 1 = cc in omega arith)
+says_stated n a (Err c) g e = absurd cc
 
 faultless : (o : Option Cause) (x : Result Gain Cause) (g : Gain) → unless o x ≡ Ok g → x ≡ Ok g
 faultless None x g e = e
-faultless (Some c) x g e = absurd (let z : ◌≡◌ {A = ℕ} 0 1 = cc in omega arith)
+faultless (Some c) x g e = absurd cc
 
 pub gained_says : (n : ℕ) (ls : List Label) (a : ℕ) (r : Reading) (g : Gain) → gained n ls a r ≡ Ok g → Says r a g
 unfolding gained
@@ -60,7 +60,7 @@ on_with n rest i x = elim x [ Ok p ↦ gathers n rest p.0 p.1 (i + 1) | Err c �
 
 goes_by : (n : ℕ) (r : Reading) (rest : List Reading) (ls : List Label) (a i : ℕ) (w : Gathering) (x : Result Gain Cause) → gained n ls a r ≡ x → on_with n rest i (shelved ls x) ≡ Ok w → Goes n r rest ls a i w
 goes_by n r rest ls a i w (Ok g) f e = record { gain = g; took = f; says = gained_says n ls a r g f; on = e }
-goes_by n r rest ls a i w (Err c) f e = absurd (let z : ◌≡◌ {A = ℕ} 0 1 = cc in omega arith)
+goes_by n r rest ls a i w (Err c) f e = absurd cc
 
 pub goes : (n : ℕ) (r : Reading) (rest : List Reading) (ls : List Label) (a i : ℕ) (w : Gathering) → gathers n (r ∷ rest) ls a i ≡ Ok w → Goes n r rest ls a i w
 goes n r rest ls a i w e = goes_by n r rest ls a i w (gained n ls a r) refl e

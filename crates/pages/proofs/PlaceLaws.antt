@@ -10,7 +10,7 @@ use Rattle.pages.specs.Program.{extended, names_with, places}
 -- a line that is not refused
 pub line_done : {A : Type 0} (i : ℕ) (x : Result A Cause) (y : A) → on_line i x ≡ Ok y → x ≡ Ok y
 line_done i (Ok z) y e = let d : z ≡ y = cc in ap Ok d
-line_done i (Err c) y e = absurd (let z : ◌≡◌ {A = ℕ} 0 1 = cc in omega arith)
+line_done i (Err c) y e = absurd cc
 
 -- a loop over lines, which has placed the words ws and come to the line i, with k labels above; rs are the lines that are left
 module _ (ls : List Label) (rs : List Reading) (k : ℕ) (ws : List ℕ) (i : ℕ) (w : Result (List ℕ) Refusal) (whole : places ls rs k ws i ≡ w) where
@@ -24,7 +24,7 @@ module _ (ls : List Label) (rs : List Reading) (k : ℕ) (ws : List ℕ) (i : �
   places_refused r rest e p q = refused_by (extended ls k ws r) e q ∙ (rw p at whole)
     where
       refused_by : (x : Result (List ℕ) Cause) (e : Refusal) → on_line i x ≡ Err e → Err e ≡ goes_on (names_with k r.name) rest x
-      refused_by (Ok us) e q = absurd (let z : ◌≡◌ {A = ℕ} 0 1 = cc in omega arith)
+      refused_by (Ok us) e q = absurd cc
       refused_by (Err c) e q = let d : refused c i ≡ e = cc in ap Err (sym d)
 
   pub places_all : rs ≡ [] → w ≡ Ok ws

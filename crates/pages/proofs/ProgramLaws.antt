@@ -106,16 +106,16 @@ module _ (ls : List Label) (k : ℕ) (us vs : List ℕ) where
 
   fixed_length : (b : Bool) (n v : ℕ) → cond b (Ok (set us n v)) (Err OutsideVariable) ≡ Ok vs → length vs ≡ length us + 0
   fixed_length true n v e = let d : set us n v ≡ vs = cc in ap length (sym d) ∙ (length-set us n v ∙ sym (add-zero (length us)))
-  fixed_length false n v e = absurd (let z : ◌≡◌ {A = ℕ} 0 1 = cc in omega arith)
+  fixed_length false n v e = absurd cc
 
   with_fixed_length : (f o : Option Label) (p v : ℕ) → with_fixed f o p v us ≡ Ok vs → length vs ≡ length us + 0
   with_fixed_length (Some l) o p v e = fixed_length (ltb p l.room) (l.address + p) v e
-  with_fixed_length None (Some l) p v e = absurd (let z : ◌≡◌ {A = ℕ} 0 1 = cc in omega arith)
-  with_fixed_length None None p v e = absurd (let z : ◌≡◌ {A = ℕ} 0 1 = cc in omega arith)
+  with_fixed_length None (Some l) p v e = absurd cc
+  with_fixed_length None None p v e = absurd cc
 
   second_length : (i : Instruction) (x : Result ℕ Cause) → with_second i us x ≡ Ok vs → length vs ≡ length us + 2
   second_length i (Ok v) e = let d : us ++ first_word i ∷ v ∷ [] ≡ vs = cc in by_append (first_word i ∷ v ∷ []) d
-  second_length i (Err c) e = absurd (let z : ◌≡◌ {A = ℕ} 0 1 = cc in omega arith)
+  second_length i (Err c) e = absurd cc
 
   saying_length : (s : Saying) → with_saying ls k us s ≡ Ok vs → length vs ≡ length us + size_of s
   saying_length nothing e = let d : us ≡ vs = cc in ap length (sym d) ∙ sym (add-zero (length us))
@@ -131,12 +131,12 @@ module _ (ls : List Label) (k : ℕ) (us vs : List ℕ) where
 
   line_length : (x : Result Saying Cause) → with_line ls k us x ≡ Ok vs → length vs ≡ length us + size_said x
   line_length (Ok s) e = saying_length s e
-  line_length (Err c) e = absurd (let z : ◌≡◌ {A = ℕ} 0 1 = cc in omega arith)
+  line_length (Err c) e = absurd cc
 
 -- what a line puts stands at its address
 ok_word : (x : Result ℕ Refusal) (w : ℕ) → x ≡ Ok w → x ≡ Ok (word_or_0 x)
 ok_word (Ok v) w e = refl
-ok_word (Err c) w e = absurd (let z : ◌≡◌ {A = ℕ} 0 1 = cc in omega arith)
+ok_word (Err c) w e = absurd cc
 
 decodes : (i : Instruction) → encodable i ≡ true → decoded (first_word i) ≡ Ok i
 decodes i e = encoded_comes_back i (first_word i) (ok_word (encoded i) _ (cond-true (encodable i) (Ok _) (Err (refused OutOfRange 0)) e))
@@ -156,7 +156,7 @@ module _ (ls : List Label) (k at : ℕ) (us vs ws : List ℕ) (long : length us 
       let d : us ++ first_word i ∷ v ∷ [] ≡ vs = cc in
       let ys = first_word i ∷ v ∷ [] in
       (ap decoded (first_at ys 2 d (omega arith) same) ∙ decodes i e, ap Ok (sym (word_at ys 2 1 d (omega arith) same)))
-  second_stands i (Err c) e f same = absurd (let z : ◌≡◌ {A = ℕ} 0 1 = cc in omega arith)
+  second_stands i (Err c) e f same = absurd cc
 
   saying_stands : (s : Saying) → Sound (Ok s) → with_saying ls k us s ≡ Ok vs → (Bare s → Same at (at + size_of s) vs ws) → Stands ls ws at (Ok s)
   saying_stands nothing h e same = tt

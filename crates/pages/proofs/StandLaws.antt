@@ -20,7 +20,7 @@ on_with ls rest k i x = elim x [ Ok us ↦ places ls rest k us (i + 1) | Err c �
 
 on_by : (ls : List Label) (rest : List Reading) (k i : ℕ) (x : Result (List ℕ) Cause) (us : List ℕ) → on_with ls rest k i x ≡ Ok us → (vs : List ℕ) × (x ≡ Ok vs) × (places ls rest k vs (i + 1) ≡ Ok us)
 on_by ls rest k i (Ok vs) us e = (vs, refl, e)
-on_by ls rest k i (Err c) us e = absurd (let z : ◌≡◌ {A = ℕ} 0 1 = cc in omega arith)
+on_by ls rest k i (Err c) us e = absurd cc
 
 pub placed_on : (ls : List Label) (r : Reading) (rest : List Reading) (k : ℕ) (ws : List ℕ) (i : ℕ) (us : List ℕ) → places ls (r ∷ rest) k ws i ≡ Ok us
     → (vs : List ℕ) × (extended ls k ws r ≡ Ok vs) × (places ls rest (names_with k r.name) vs (i + 1) ≡ Ok us)
@@ -53,16 +53,16 @@ module _ (lo hi : ℕ) (ls : List Label) (apart : AllByRecursion (Apart lo hi) l
       let h = ltb-true p l.room t in
       subst (λ (xs : List ℕ). Same lo hi ws xs) d
       (simp length-set (omega arith), λ k f g. let ne : k ≢ l.address + p = elsewhere lo hi p l h a k f g in rw get_or-set_other)
-  fixed_by false ws us l p v t a e = absurd (let z : ◌≡◌ {A = ℕ} 0 1 = cc in omega arith)
+  fixed_by false ws us l p v t a e = absurd cc
 
   fixed_same : (f o : Option Label) (p v : ℕ) (ws us : List ℕ) → ((l : Label) → f ≡ Some l → Apart lo hi l) → with_fixed f o p v ws ≡ Ok us → Same lo hi ws us
   fixed_same (Some l) o p v ws us h e = fixed_by (ltb p l.room) ws us l p v refl (h l refl) e
-  fixed_same None (Some l) p v ws us h e = absurd (let z : ◌≡◌ {A = ℕ} 0 1 = cc in omega arith)
-  fixed_same None None p v ws us h e = absurd (let z : ◌≡◌ {A = ℕ} 0 1 = cc in omega arith)
+  fixed_same None (Some l) p v ws us h e = absurd cc
+  fixed_same None None p v ws us h e = absurd cc
 
   second_same : (ws us : List ℕ) (x : Result ℕ Cause) (i : Instruction) → hi ≤ length ws → with_second i ws x ≡ Ok us → Same lo hi ws us
   second_same ws us (Ok v) i h e = let d : ws ++ first_word i ∷ v ∷ [] ≡ us = cc in subst (λ (xs : List ℕ). Same lo hi ws xs) d (same_append ws _ h)
-  second_same ws us (Err c) i h e = absurd (let z : ◌≡◌ {A = ℕ} 0 1 = cc in omega arith)
+  second_same ws us (Err c) i h e = absurd cc
 
   saying_same : (k : ℕ) (ws us : List ℕ) (s : Saying) → hi ≤ length ws → with_saying ls k ws s ≡ Ok us → Same lo hi ws us
   saying_same k ws us nothing h e = let d : ws ≡ us = cc in subst (λ (xs : List ℕ). Same lo hi ws xs) d (omega arith, λ k p q. refl)
@@ -76,7 +76,7 @@ module _ (lo hi : ℕ) (ls : List Label) (apart : AllByRecursion (Apart lo hi) l
 
   line_same : (k : ℕ) (ws us : List ℕ) (x : Result Saying Cause) → hi ≤ length ws → with_line ls k ws x ≡ Ok us → Same lo hi ws us
   line_same k ws us (Ok s) h e = saying_same k ws us s h e
-  line_same k ws us (Err c) h e = absurd (let z : ◌≡◌ {A = ℕ} 0 1 = cc in omega arith)
+  line_same k ws us (Err c) h e = absurd cc
 
   -- the lines that follow leave the words from lo to below hi as they are
   pub places_same : (rs : List Reading) (k : ℕ) (ws : List ℕ) (i : ℕ) (us : List ℕ) → hi ≤ length ws → places ls rs k ws i ≡ Ok us → Same lo hi ws us

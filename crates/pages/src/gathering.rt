@@ -39,7 +39,7 @@ fn gather_line(
         number,
     ))?;
     if let Some(label) = gain.label {
-        let _ = labels.push(label);
+        labels.push(label).unwrap();
     }
     Ok(gain.next)
 }

@@ -10,7 +10,7 @@ pub(crate) fn put(program: &mut SliceVec<'_, u16>, word: u16)
     requires { HasRoom 1 program.old }
     ensures { NowHolds program.old program.new (items program.old ++ word ∷ []) }
 {
-    let _ = program.push(word);
+    program.push(word).unwrap();
 }
 
 // Two words.
