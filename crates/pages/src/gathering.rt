@@ -70,18 +70,13 @@ fn gather_text(text: &[u8], slots: &mut [Label]) -> Result<Gathered, Refusal>
     gather_lines(text, slots)
 }
 
-// Each name of an accepted text stands for its line; a call of this does nothing.
-fn names_stand(text: &[u8], slots: &[Label])
-    ensures { NamesIfOk text.now (gathering text.now (length slots.now)) }
-{}
-
 // Gathers the names of a text into the first slots, each with the address of its line; a refusal empties all slots.
+#[tactic(auto, using(crate::proofs::LawsHold::names_hold))]
 pub fn gather(text: &[u8], slots: &mut [Label]) -> Result<Gathered, Refusal>
     ensures answer { result ≡ gather_answer (gathering text.now (length slots.old)) }
     ensures slots { slots.new ≡ slots_after (gathering text.now (length slots.old)) slots.old }
     ensures names { NamesIfOk text.now (gathering text.now (length slots.old)) }
 {
-    names_stand(text, slots);
     let gathered = gather_text(text, slots);
     if gathered.is_err() {
         slots.fill(Label::vacant());

@@ -1,5 +1,5 @@
 // Labels: the names of a page and what they stand for.
-ghost use Rattle.std.specs.Prelude.{◌≡◌, take};
+ghost use Rattle.std.specs.Prelude.{◌≡◌, ◌≤◌, length, take};
 ghost use Rattle.pages.specs.Labels.{no_label, find_label};
 
 use page_tokens::Name;
@@ -39,6 +39,7 @@ pub fn find(labels: &[Label], name: &Name) -> Option<Label>
 pub(crate) struct Scope<'a> {
     pub(crate) labels: &'a [Label],
     pub(crate) above: usize,
+    ghost within: { above ≤ length labels.now },
 }
 
 impl Scope<'_> {
@@ -53,6 +54,6 @@ impl Scope<'_> {
     pub(crate) fn find_above(self, name: &Name) -> Option<Label>
         ensures { result ≡ find_label (take self.entry.above self.entry.labels.now) name.now }
     {
-        find(self.labels.get(..self.above).unwrap_or(self.labels), name)
+        find(&self.labels[..self.above], name)
     }
 }

@@ -23,7 +23,7 @@ pub(crate) fn size(statement: Statement<'_>) -> usize
         Statement::Empty | Statement::Static(..) => 0,
         Statement::OneWord(_) => 1,
         Statement::TwoWords(..) => 2,
-        Statement::Var(words) => words as usize,
+        Statement::Var(words) => usize::from(words),
         Statement::Text(letters) => letters.len() + 1,
     }
 }
@@ -73,12 +73,8 @@ fn add_words(name: Option<Name>, at: usize, statement: Statement<'_>) -> Result<
     })
 }
 
-// What the shut definition stands for; a call of this does nothing.
-fn gaining(line: &[u8], labels: &[Label], slots: usize, at: usize)
-    ensures { gained slots labels.now at (line_read line.now) ≡ gain slots labels.now at (line_read line.now) }
-{}
-
 // What a line adds at an address, after lines with these labels: its name is checked first, then its statement, then its words.
+#[tactic(auto, unfolding(crate::specs::Page::gained))]
 pub(crate) fn add_line(
     line: &[u8],
     labels: &[Label],
@@ -88,7 +84,6 @@ pub(crate) fn add_line(
     ensures gain { result ≡ gained slots labels.now at (line_read line.now) }
     ensures room { IfOk result (λ g. IfSome g.label (λ l. length labels.now < slots)) }
 {
-    gaining(line, labels, slots, at);
     let line = read_line(line);
     check_name(line.name, labels, slots)?;
     add_words(line.name, at, line.statement?)

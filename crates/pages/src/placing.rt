@@ -22,12 +22,6 @@ pub struct Placed {
     pub(crate) size: usize,
 }
 
-// What the shut definition stands for; a call of this does nothing.
-fn extending(line: &[u8], scope: Scope<'_>, words: &[u16])
-    ensures { extended scope.entry.labels.now scope.entry.above words.now (line_read line.now)
-        ≡ with_line scope.entry.labels.now scope.entry.above words.now (line_read line.now).saying }
-{}
-
 // Puts the words of a line.
 fn put_line(line: Line<'_>, scope: Scope<'_>, program: &mut SliceVec<'_, u16>) -> Result<(), Cause>
     requires { Fits (length (items program.old)) (length program.old.slots.now) (reading_of line).saying }
@@ -38,19 +32,18 @@ fn put_line(line: Line<'_>, scope: Scope<'_>, program: &mut SliceVec<'_, u16>) -
 }
 
 // Puts the words of a line of a text; answers how many labels are on the lines up to it.
+#[tactic(auto, unfolding(crate::specs::Program::extended))]
 fn place_line(
     line: &[u8],
     scope: Scope<'_>,
     program: &mut SliceVec<'_, u16>,
     number: usize,
 ) -> Result<usize, Refusal>
-    requires above { scope.above ≤ length scope.labels.now }
-    requires within { Fits (length (items program.old)) (length program.old.slots.now) (line_read line.now).saying }
+    requires { Fits (length (items program.old)) (length program.old.slots.now) (line_read line.now).saying }
     ensures words { Puts program.old program.new (line_size (line_read line.now)) (on_line number
         (extended scope.entry.labels.now scope.entry.above (items program.old) (line_read line.now))) result }
     ensures names { IfOk result (λ names. names ≡ names_with scope.entry.above (line_read line.now).name) }
 {
-    extending(line, scope, program.as_slice());
     let line = read_line(line);
     put_line(line, scope, program).map_err(|cause| cause.at(number))?;
     Ok(scope.above + usize::from(line.name.is_some()))
@@ -84,13 +77,9 @@ fn place_gathered(text: &[u8], slots: &[Label], words: &mut [u16]) -> Result<Pla
     place_lines(text, &slots[..found.labels], words)
 }
 
-// The words of an accepted text stand at the addresses of its lines; a call of this does nothing.
-fn a_program_stands(text: &[u8], slots: &[Label], words: &[u16])
-    ensures { ProgramIfOk text.now slots.now (placing text.now slots.now (length words.now)) }
-{}
-
 // Places a gathered text: its words go into the first of those lent. It goes by the text and the slots that it is handed. A refusal empties
 // all slots and zeroes all words.
+#[tactic(auto, using(crate::proofs::LawsHold::program_holds))]
 pub fn place(
     gathered: Gathered,
     text: &[u8],
@@ -102,7 +91,6 @@ pub fn place(
     ensures slots { slots.new ≡ slots_left (placing text.now slots.old (length words.old)) slots.old }
     ensures program { ProgramIfOk text.now slots.old (placing text.now slots.old (length words.old)) }
 {
-    a_program_stands(text, slots, words);
     let Gathered { labels: _, size: _ } = gathered;
     let placed = place_gathered(text, slots, words);
     if placed.is_err() {

@@ -10,8 +10,8 @@ use Rattle.pages.proofs.OnLaws.{line_fits, gathered_on}
 use Rattle.pages.proofs.PlaceLaws.{line_done, places_more, places_refused, places_all}
 use Rattle.pages.proofs.placing.place_lines.Goals as goal
 
-pub place_line-requires-clause-within : goal.place_line-requires-clause-within
-place_line-requires-clause-within c =
+pub place_line-requires : goal.place_line-requires
+place_line-requires c =
     let l = c.loop-i in
     let new = c.next.new.self in
     let first : lines l.i-iterator.iter.rest.now ≡ c.in-Some.line.now ∷ lines new.iter.rest.now = search rules in
