@@ -1,7 +1,7 @@
 // Records of any kind in lent slots, the last pushed being the first popped.
 #![tactic(auto)]
 
-ghost use Rattle.std.specs.Prelude.{◌≡◌, ◌+◌, ◌<◌, [], ◌∷◌, ◌++◌, length, take, drop, slice_set};
+ghost use Rattle.std.specs.Prelude.{◌≡◌, ◌+◌, ◌<◌, [], ◌∷◌, ◌++◌, length, take, drop, slice_set, Some, codes};
 ghost use Rattle.std.specs.List.{slice_get};
 ghost use Rattle.shelf.specs.Slots.{records, push_answer, slots_pushed, used_pushed, records_pushed, has_last, last_record, used_popped};
 
@@ -15,6 +15,8 @@ pub mod slice_vec;
 pub struct Full;
 
 impl fmt::Display for Full {
+    ghost output = { λ _. Some (codes "no slot is free") };
+
     fn fmt<W: fmt::Write>(&self, f: &mut fmt::Formatter<W>) -> fmt::Result {
         f.write_str("no slot is free")
     }

@@ -6,7 +6,7 @@ ghost use Rattle.shelf.specs.Slots.{push_answer, records_pushed};
 use crate::{Full, Shelf};
 
 // The slots lent, and the shelf on them.
-#[derive(Drop)]
+#[derive(Debug, Drop)]
 pub struct SliceVec<'a, T> {
     slots: &'a mut [T],
     shelf: Shelf,

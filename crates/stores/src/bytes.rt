@@ -21,6 +21,7 @@ impl Bytes<'_> {
         ensures named { self.new.bytes.ghost_name ≡ self.old.bytes.ghost_name }
     {
         self.probe(at)?;
+        // by index, since nothing is known of a slice once it was written through its chunks
         let i = usize::from(at) * 2;
         [self.bytes[i], self.bytes[i + 1]] = word.to_be_bytes();
         Ok(())

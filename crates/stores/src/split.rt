@@ -28,6 +28,7 @@ impl<F: ReadStore, S: ReadStore> ReadStore for Split<F, S> {
 
     ghost place = { λ s. split_at s.border (F.ReadStore.place s.first) (S.ReadStore.place s.second) };
 
+    // The two stores may be of two types, so each call has a match of its own.
     fn read(&self, at: u16) -> Result<u16, Refusal> {
         match self.past(at) {
             None => self.first.read(at),
