@@ -18,6 +18,7 @@ pub(crate) enum Class {
     InLine,
 }
 
+// A byte is read as the character that it stands for.
 impl Class {
     pub(crate) fn has(self, byte: u8) -> bool
         ensures { result ≡ of_class self byte }

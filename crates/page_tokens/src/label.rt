@@ -6,7 +6,7 @@ ghost use Rattle.page_tokens.specs.Labels.{label_in, past_label, past_token};
 use crate::name::Name;
 use crate::token::{Token, Tokens};
 
-// Puts back the tokens at its end, unless the colon was found: then none are to be put back.
+// Puts back the tokens at its end, unless the colon was found: then none are to be put back. So no way out of a look can forget to.
 struct Look<'t, 'a> {
     tokens: &'t mut Tokens<'a>,
     back: Option<Tokens<'a>>,

@@ -1,13 +1,18 @@
-use Rattle.std.proofs.Common.{◌≡◌, ℕ, zero, suc, ◌<◌, ◌≤◌, Bool, true, false, ◌&&◌, eqb, List, [], ◌∷◌, ◌++◌, length, get_or, take, sym, refl, ap, ◌∙◌, arith}
+use Rattle.std.proofs.Common.{◌≡◌, ℕ, zero, suc, ◌<◌, ◌≤◌, Bool, true, false, ◌&&◌, eqb, List, [], ◌∷◌, ◌++◌, length, get_or, take, sym, refl, ap, ◌∙◌, arith, rules}
 use Rattle.std.proofs.lemmas.Slice.Eq.{bytes_eq-Decides}
 use Rattle.std.proofs.lemmas.Bool.{both_ways, and_parts, and_from, eq-eqb, eqb-true}
 use Rattle.page_tokens.specs.Names.{same_name}
 use Rattle.pages.specs.declared.label.Label.{Label}
 use Rattle.pages.specs.Labels.{same_label, begins_with}
+use Rattle.pages.specs.contracts.label.LabelPartialEq.TheImpl as TheImpl
 
 -- what the checker reads past the end
 abbrev none : Label
 none = record { name = record { letters = [] }; address = 0; room = 0 }
+
+-- `==` on labels compares their names' letters, their addresses and their rooms
+pub eq_by_parts : (l m : Label) → TheImpl.eq-value.it l m ≡ same_label l m
+eq_by_parts l m = search rules
 
 same_itself : (l : Label) → same_label l l ≡ true
 same_itself l =

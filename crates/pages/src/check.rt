@@ -5,6 +5,7 @@ ghost use Rattle.pages.specs.Labels.{begins_with};
 ghost use Rattle.pages.specs.Page.{gained, shelved, gathers, page, gathering};
 ghost use Rattle.pages.specs.Program.{held, held_line};
 
+use crate::LONGEST_TEXT;
 use crate::label::Label;
 use crate::line::{Gain, add_line};
 use page_tokens::Lines;
@@ -66,7 +67,7 @@ fn check_lines(text: &[u8], slots: &[Label]) -> Option<Progress>
 pub(crate) fn check(text: &[u8], slots: &[Label]) -> Option<Progress>
     ensures { result ≡ held slots.now (gathering text.now (length slots.now)) }
 {
-    if text.len() > 65535 {
+    if text.len() > LONGEST_TEXT {
         return None;
     }
     check_lines(text, slots)

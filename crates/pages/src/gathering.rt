@@ -4,6 +4,7 @@ ghost use Rattle.page_text.specs.Sayings.{line_read};
 ghost use Rattle.pages.specs.Laws.{NamesIfOk};
 ghost use Rattle.pages.specs.Page.{gathers, page, gathering, gather_answer, slots_after, GathersLine};
 
+use crate::LONGEST_TEXT;
 use crate::label::Label;
 use crate::line::add_line;
 use page_tokens::Lines;
@@ -64,7 +65,7 @@ fn gather_text(text: &[u8], slots: &mut [Label]) -> Result<Gathered, Refusal>
     ensures answer { result ≡ gather_answer (gathering text.now (length slots.old)) }
     ensures slots { IfOk result (λ g. slots.new ≡ slots_after (gathering text.now (length slots.old)) slots.old) }
 {
-    if text.len() > 65535 {
+    if text.len() > LONGEST_TEXT {
         return Err(Cause::TextTooLong.at(0));
     }
     gather_lines(text, slots)

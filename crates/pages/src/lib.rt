@@ -1,6 +1,9 @@
 // Pages: names gathered, words placed.
 #![tactic(auto)]
 
+// The most bytes that a page has.
+pub(crate) const LONGEST_TEXT: usize = 65535;
+
 mod check;
 pub mod gathering;
 pub mod label;

@@ -22,7 +22,7 @@ pub(crate) fn put_two(program: &mut SliceVec<'_, u16>, first: u16, second: u16)
     put(program, second);
 }
 
-// So many words of 0.
+// So many words of 0: a push for each, as the library has none of so many copies.
 pub(crate) fn put_zeros(program: &mut SliceVec<'_, u16>, count: u16)
     requires { HasRoom count program.old }
     ensures { NowHolds program.old program.new (items program.old ++ replicate count 0) }

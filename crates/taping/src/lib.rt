@@ -34,13 +34,13 @@ fn add_up(words: &[u16]) -> u16
         .fold(0, |sum: u16, word| sum.wrapping_add(*word))
 }
 
-// A kind 0 word for each word of the program.
+// A kind 0 word for each word of the program: wider than it, so none is copied as it is.
 fn put_program(tape: &mut SliceVec<'_, u32>, words: &[u16])
     requires { length words.now ≤ length (free tape.old) }
     ensures { NowHolds tape.old tape.new (items tape.old ++ words.now) }
 {
     for word in words {
-        let _ = tape.push(u32::from(*word));
+        tape.push(u32::from(*word)).unwrap();
     }
 }
 
@@ -49,9 +49,9 @@ fn put_tape(tape: &mut SliceVec<'_, u32>, words: &[u16])
     requires { length words.now + 2 ≤ length (free tape.old) }
     ensures { NowHolds tape.old tape.new (items tape.old ++ tape_of words.now) }
 {
-    let _ = tape.push(0x4000_0000);
+    tape.push(0x4000_0000).unwrap();
     put_program(tape, words);
-    let _ = tape.push(0xc000_0000 + u32::from(add_up(words)));
+    tape.push(0xc000_0000 + u32::from(add_up(words))).unwrap();
 }
 
 // The tape of a program in the first places; how many it takes.
