@@ -3,7 +3,6 @@ use Rattle.std.proofs.lemmas.List.{length-take-le}
 use Rattle.std.proofs.lemmas.Bool.{both_ways, cond-true}
 use Rattle.refusal.specs.declared.Cause.{Cause}
 use Rattle.refusal.specs.declared.Refusal.{Refusal}
-use Rattle.refusal.specs.Numbers.{refused}
 use Rattle.page_text.specs.Sayings.{Reading}
 use Rattle.pages.specs.declared.check.Progress.{Progress}
 use Rattle.std.specs.Result.{result_ok}
@@ -12,7 +11,7 @@ use Rattle.pages.specs.declared.line.Gain.{Gain}
 use Rattle.pages.specs.Labels.{begins_with}
 use Rattle.pages.specs.Page.{gained, shelved, Gathering, gathers}
 use Rattle.pages.specs.Program.{held_line, held}
-use Rattle.pages.proofs.OnLaws.{grows}
+use Rattle.pages.proofs.OnLaws.{on_with, grows}
 use Rattle.pages.proofs.HeldLaws.{begins_itself, begins_holds, begins_first}
 
 -- a result that is done
@@ -59,10 +58,7 @@ module _ (slots : List Label) where
   not_begun false p e = refl
 
   module _ (n : ℕ) (rest : List Reading) (i : ℕ) where
-    abbrev goes_on : Result (List Label × ℕ) Cause → Result Gathering Refusal
-    goes_on x = elim x [ Ok p ↦ gathers n rest p.0 p.1 (i + 1) | Err c ↦ Err (refused c i) ]
-
-    held_none : (x : Result (List Label × ℕ) Cause) → held_line slots x ≡ None → held slots (goes_on x) ≡ None
+    held_none : (x : Result (List Label × ℕ) Cause) → held_line slots x ≡ None → held slots (on_with n rest i x) ≡ None
     held_none (Ok y) e =
         still_missed y.0 (gathers n rest y.0 y.1 (i + 1))
         (λ g q. let t = grows n rest y.0 y.1 (i + 1) g q in (t.more, t.labels))
@@ -73,7 +69,7 @@ module _ (slots : List Label) where
 module _ (slots : List Label) (n : ℕ) (rs : List Reading) (k a i : ℕ) (w : Result Gathering Refusal) (whole : gathers n rs (take k slots) a i ≡ w) where
   pub check_more : (r : Reading) (rest : List Reading) (p : Progress) → rs ≡ r ∷ rest → Some p ≡ held_line slots (shelved (take k slots) (gained n (take k slots) a r))
       → gathers n rest (take p.labels slots) p.size (i + 1) ≡ w
-  check_more r rest p d e = sym (ap (goes_on slots n rest i) (held_some slots _ p (sym e))) ∙ (rw d at whole)
+  check_more r rest p d e = sym (ap (on_with n rest i) (held_some slots _ p (sym e))) ∙ (rw d at whole)
 
   pub check_none : (r : Reading) (rest : List Reading) → rs ≡ r ∷ rest → None ≡ held_line slots (shelved (take k slots) (gained n (take k slots) a r)) → None ≡ held slots w
   check_none r rest d e = sym (held_none slots n rest i _ (sym e)) ∙ ap (held slots) (rw d at whole)

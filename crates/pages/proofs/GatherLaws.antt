@@ -6,20 +6,18 @@ use Rattle.refusal.specs.Numbers.{refused}
 use Rattle.page_text.specs.Sayings.{Reading}
 use Rattle.pages.specs.declared.label.Label.{Label}
 use Rattle.pages.specs.declared.line.Gain.{Gain}
+use Rattle.pages.proofs.OnLaws.{on_with}
 use Rattle.pages.specs.Page.{on_line, gained, shelved, Gathering, gathered, gathers, gather_answer, slots_after}
 
 -- a loop over lines, which has gathered the labels ls and come to the address a and the line i; rs are the lines that are left
 module _ (n : ℕ) (rs : List Reading) (ls : List Label) (a i : ℕ) (w : Result Gathering Refusal) (whole : gathers n rs ls a i ≡ w) where
-  abbrev goes_on : List Reading → Result (List Label × ℕ) Cause → Result Gathering Refusal
-  goes_on rest x = elim x [ Ok p ↦ gathers n rest p.0 p.1 (i + 1) | Err c ↦ Err (refused c i) ]
-
   pub gathers_more : (m : ℕ) (r : Reading) (rest : List Reading) (ms : List Label) (b : ℕ) → m ≡ n → rs ≡ r ∷ rest → shelved ls (gained m ls a r) ≡ Ok (ms, b) → gathers n rest ms b (i + 1) ≡ w
-  gathers_more m r rest ms b k p q = sym (ap (goes_on rest) (rw k at q)) ∙ (rw p at whole)
+  gathers_more m r rest ms b k p q = sym (ap (on_with n rest i) (rw k at q)) ∙ (rw p at whole)
 
   pub gathers_refused : (m : ℕ) (r : Reading) (rest : List Reading) (e : Refusal) → m ≡ n → rs ≡ r ∷ rest → on_line i (gained m ls a r) ≡ Err e → Err e ≡ w
   gathers_refused m r rest e k p q = refused_by rest (gained n ls a r) e (rw k at q) ∙ (rw p at whole)
     where
-      refused_by : (rest : List Reading) (x : Result Gain Cause) (e : Refusal) → on_line i x ≡ Err e → Err e ≡ goes_on rest (shelved ls x)
+      refused_by : (rest : List Reading) (x : Result Gain Cause) (e : Refusal) → on_line i x ≡ Err e → Err e ≡ on_with n rest i (shelved ls x)
       refused_by rest (Ok g) e q = absurd cc
       refused_by rest (Err c) e q = let d : refused c i ≡ e = cc in ap Err (sym d)
 

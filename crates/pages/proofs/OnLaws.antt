@@ -55,7 +55,8 @@ pub record Goes (n : ℕ) (r : Reading) (rest : List Reading) (ls : List Label) 
   pub says : Says r a gain
   pub on : gathers n rest (with_label ls gain.label) gain.next (i + 1) ≡ Ok w
 
-abbrev on_with : ℕ → List Reading → ℕ → Result (List Label × ℕ) Cause → Result Gathering Refusal
+-- the lines after one, by what the line comes to
+abbrev pub on_with : ℕ → List Reading → ℕ → Result (List Label × ℕ) Cause → Result Gathering Refusal
 on_with n rest i x = elim x [ Ok p ↦ gathers n rest p.0 p.1 (i + 1) | Err c ↦ Err (refused c i) ]
 
 goes_by : (n : ℕ) (r : Reading) (rest : List Reading) (ls : List Label) (a i : ℕ) (w : Gathering) (x : Result Gain Cause) → gained n ls a r ≡ x → on_with n rest i (shelved ls x) ≡ Ok w → Goes n r rest ls a i w

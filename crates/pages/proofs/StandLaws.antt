@@ -15,7 +15,7 @@ use Rattle.pages.specs.Program.{first_word, with_fixed, with_second, second_word
 use Rattle.pages.proofs.FixLaws.{found}
 
 -- how a placing that ends well goes on after a line
-abbrev on_with : List Label → List Reading → ℕ → ℕ → Result (List ℕ) Cause → Result (List ℕ) Refusal
+abbrev pub on_with : List Label → List Reading → ℕ → ℕ → Result (List ℕ) Cause → Result (List ℕ) Refusal
 on_with ls rest k i x = elim x [ Ok us ↦ places ls rest k us (i + 1) | Err c ↦ Err (refused c i) ]
 
 on_by : (ls : List Label) (rest : List Reading) (k i : ℕ) (x : Result (List ℕ) Cause) (us : List ℕ) → on_with ls rest k i x ≡ Ok us → (vs : List ℕ) × (x ≡ Ok vs) × (places ls rest k vs (i + 1) ≡ Ok us)
