@@ -25,6 +25,7 @@ fn stop_of(answer: Result<Answer, Refusal>) -> Stop
 {
     match answer {
         Ok(Answer::Ran(ran)) => ran.stop,
+        // No run answers this; like its definition, the function is total over what a line can answer.
         Ok(_) => Stop::CountReached,
         Err(refusal) => Stop::from(refusal),
     }

@@ -31,6 +31,7 @@ fn replace<S: WriteStore>(store: &mut S, at: u16, word: u16) -> Result<u16, Refu
     Ok(old)
 }
 
+// The memory and the screen may be of two types, so that no common value stands for both: each call matches on the side.
 impl<M: WriteStore, S: WriteStore, K: ReadStore> Bus for Devices<M, S, K> {
     ghost view = { λ d. view (cells (M.ReadStore.shown d.memory) (M.WriteStore.unlocked d.memory))
         (cells (S.ReadStore.shown d.screen) (S.WriteStore.unlocked d.screen)) (keys (K.ReadStore.shown d.keys)) };

@@ -1,58 +1,11 @@
-use Rattle.std.proofs.Common.{◌≡◌, ℕ, ◌+◌, ◌<◌, ◌≤◌, Bool, true, false, cond, eqb, List, [], ◌∷◌, length, get_or, drop, Some, None, Ok, Err, Option, Result, sym, refl, ap, ◌∙◌}
-use Rattle.std.proofs.lemmas.List.{at_drop_more, at_drop_all}
+use Rattle.std.proofs.Common.{◌≡◌, ℕ, Bool, true, false, cond, eqb, List, [], ◌∷◌, Some, Ok, Err, Option, Result, sym, refl, ap, ◌∙◌}
 use Rattle.refusal.specs.declared.Refusal.{Refusal}
 use Rattle.processor.specs.declared.Side.TheVariants.{Memory}
-use Rattle.processor.specs.Views.{Cell, View, Fault, Places, answer, probe, probed, exchange, yielded, put_if, put_into}
+use Rattle.processor.specs.Views.{Cell, View, Fault, Places, probe, probed, exchange, yielded, put_if, put_into}
 use Rattle.tape.specs.declared.cursor.CellWord.{CellWord}
-use Rattle.tape.specs.Items.{item}
-use Rattle.tape.specs.Puts.{puts, puts_from, put_by, place_after, with_put}
+use Rattle.tape.specs.Puts.{puts}
 use Rattle.tape.specs.Checks.{checked}
-use Rattle.session.specs.Opens.{then, probe_put, probe_all, write_put, write_all, put_all, probes_told, tape_told, loaded, probes_written, tape_written}
-
--- one tape word, met by a loop at index i with the cursor at a place
-puts_more : (ws : List ℕ) (i place : ℕ) → i < length ws → puts_from place (drop i ws) ≡ with_put (put_by (item (get_or ws i 0)) place) (puts_from (place_after (item (get_or ws i 0)) place) (drop (i + 1) ws))
-puts_more ws i place h = at_drop_more (puts_from place) ws i 0 h
-
-puts_all : (ws : List ℕ) (i place : ℕ) → length ws ≤ i → puts_from place (drop i ws) ≡ []
-puts_all ws i place h = at_drop_all (puts_from place) ws i h
-
-probe_with : (v : View) (o : Option CellWord) (ps : List CellWord) → probe_all v (with_put o ps) ≡ then (probe_put v o) (probe_all v ps)
-probe_with v None ps = refl
-probe_with v (Some p) ps = refl
-
-write_with : (v : View) (o : Option CellWord) (ps : List CellWord) → write_all v (with_put o ps) ≡ write_all (write_put v o) ps
-write_with v None ps = refl
-write_with v (Some p) ps = refl
-
-then_ok : (p : Places) (o x : Result Unit Fault) → Ok tt ≡ answer p o → then o x ≡ x
-then_ok p (Ok u) x h = refl
-then_ok p (Err f) x h = cc
-
-then_err : (p : Places) (o x : Result Unit Fault) (e : Refusal) → Err e ≡ answer p o → Err e ≡ answer p (then o x)
-then_err p (Ok u) x e h = cc
-then_err p (Err f) x e h = h
-
-module _ (p : Places) (v : View) (ws : List ℕ) (i place : ℕ) (whole : probe_all v (puts_from place (drop i ws)) ≡ probe_all v (puts ws)) where
-  here : i < length ws → then (probe_put v (put_by (item (get_or ws i 0)) place)) (probe_all v (puts_from (place_after (item (get_or ws i 0)) place) (drop (i + 1) ws))) ≡ probe_all v (puts ws)
-  here h = sym (probe_with v (put_by (item (get_or ws i 0)) place) (puts_from (place_after (item (get_or ws i 0)) place) (drop (i + 1) ws))) ∙ (sym (ap (probe_all v) (puts_more ws i place h)) ∙ whole)
-
-  pub probe_more : (place' : ℕ) → i < length ws → place' ≡ place_after (item (get_or ws i 0)) place → Ok tt ≡ answer p (probe_put v (put_by (item (get_or ws i 0)) place)) → probe_all v (puts_from place' (drop (i + 1) ws)) ≡ probe_all v (puts ws)
-  probe_more place' h q a =
-      rw q (sym (then_ok p (probe_put v (put_by (item (get_or ws i 0)) place)) _ a) ∙ here h)
-
-  pub probe_stop : (e : Refusal) → i < length ws → Err e ≡ answer p (probe_put v (put_by (item (get_or ws i 0)) place)) → Err e ≡ answer p (probe_all v (puts ws))
-  probe_stop e h a = then_err p (probe_put v (put_by (item (get_or ws i 0)) place)) _ e a ∙ ap (answer p) (here h)
-
-  pub probe_end : length ws ≤ i → Ok tt ≡ answer p (probe_all v (puts ws))
-  probe_end h = ap (answer p) (sym (ap (probe_all v) (puts_all ws i place h)) ∙ whole)
-
-module _ (v u : View) (ws : List ℕ) (i place : ℕ) (whole : write_all v (puts_from place (drop i ws)) ≡ u) where
-  pub write_more : (v' : View) (place' : ℕ) → i < length ws → place' ≡ place_after (item (get_or ws i 0)) place → v' ≡ write_put v (put_by (item (get_or ws i 0)) place) → write_all v' (puts_from place' (drop (i + 1) ws)) ≡ u
-  write_more v' place' h q e =
-      rw (q, e) (sym (write_with v (put_by (item (get_or ws i 0)) place) (puts_from (place_after (item (get_or ws i 0)) place) (drop (i + 1) ws))) ∙ (sym (ap (write_all v) (puts_more ws i place h)) ∙ whole))
-
-  pub write_end : length ws ≤ i → v ≡ u
-  write_end h = sym (ap (write_all v) (puts_all ws i place h)) ∙ whole
+use Rattle.session.specs.Opens.{then, probe_all, write_all, put_all, probes_told, tape_told, loaded, probes_written, tape_written}
 
 -- a probed cell stays so under a write
 still_cell : (o : Option Cell) (c : Bool) (a w : ℕ) → probed (yielded o Memory a) ≡ Ok tt → probed (yielded (cond c (Some (record { word = w; unlocked = true })) o) Memory a) ≡ Ok tt
@@ -75,24 +28,14 @@ written_ok v a w (Ok x) h = refl
 written_ok v a w (Err f) h = cc
 
 -- where every probe is done, every write is
-pub writes_put : (v : View) (ps : List CellWord) → probe_all v ps ≡ Ok tt → write_all v ps ≡ put_all v ps
+writes_put : (v : View) (ps : List CellWord) → probe_all v ps ≡ Ok tt → write_all v ps ≡ put_all v ps
 writes_put v [] h = refl
 writes_put v (p ∷ ps) h =
     let q = first_ok (probe v Memory p.at) (probe_all v ps) h in
     ap (λ (x : View). write_all x ps) (written_ok v p.at p.word (exchange v Memory p.at) q.0)
     ∙ writes_put (put_into Memory v p.at p.word) ps (still_all v p.at p.word ps q.1)
 
-answer_ok : (p : Places) (o : Result Unit Fault) → Ok tt ≡ answer p o → o ≡ Ok tt
-answer_ok p (Ok u) h = refl
-answer_ok p (Err f) h = cc
-
--- a tape that is accepted and whose addresses are all probed is put into the memory
-pub load_done : (p : Places) (v w : View) (tape : List ℕ) → Ok tt ≡ checked tape → Ok tt ≡ answer p (probe_all v (puts tape)) → w ≡ write_all v (puts tape) → loaded p v tape ≡ Ok w
-load_done p v w tape a b e =
-    let q = answer_ok p (probe_all v (puts tape)) b in
-    rw (← a, q, e, writes_put v (puts tape) q) refl
-
--- so a tape is put into the memory by writes
+-- a tape whose addresses are all probed is put into the memory by writes
 by_probes : (p : Places) (v : View) (ps : List CellWord) (o : Result Unit Fault) → probe_all v ps ≡ o → probes_told p v ps o ≡ probes_written p v ps o
 by_probes p v ps (Ok u) e = ap (λ (x : View). Ok x) (sym (writes_put v ps e))
 by_probes p v ps (Err f) e = refl

@@ -1,4 +1,4 @@
-use Rattle.std.specs.Prelude.{ℕ, List, [], ◌∷◌, Some, None, Ok, Err, Option, Result}
+use Rattle.std.specs.Prelude.{ℕ, List, [], ◌∷◌, Ok, Err, Result}
 use Rattle.refusal.specs.declared.Refusal.{Refusal}
 use Rattle.processor.specs.declared.Side.TheVariants.{Memory}
 use Rattle.processor.specs.Views.{View, Fault, Places, told, probe, exchanged, put_into}
@@ -13,10 +13,6 @@ abbrev pub then : Result Unit Fault → Result Unit Fault → Result Unit Fault
 then (Ok u) o = o
 then (Err f) o = Err f
 
-abbrev pub probe_put : View → Option CellWord → Result Unit Fault
-probe_put v None = Ok tt
-probe_put v (Some p) = probe v Memory p.at
-
 -- each address that is to be written probed, in order
 abbrev pub probe_all : View → List CellWord → Result Unit Fault
 probe_all v [] = Ok tt
@@ -28,10 +24,6 @@ put_all v [] = v
 put_all v (p ∷ ps) = put_all (put_into Memory v p.at p.word) ps
 
 -- the words written in order, each as far as the store takes it
-abbrev pub write_put : View → Option CellWord → View
-write_put v None = v
-write_put v (Some p) = exchanged v Memory p.at p.word
-
 abbrev pub write_all : View → List CellWord → View
 write_all v [] = v
 write_all v (p ∷ ps) = write_all (exchanged v Memory p.at p.word) ps

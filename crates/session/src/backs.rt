@@ -49,6 +49,7 @@ impl<P: Processor> Session<P> {
     {
         for done in 0..count {
             let entry = self.journal.last(journal).unwrap();
+            // A refusal is no error of this call: it goes into the answer, with how many were taken back.
             if let Err(refusal) = self.retreat(bus, journal, entry) {
                 return Taken {
                     done,

@@ -14,6 +14,12 @@ use processor::Mark;
 use processor::bus::{Bus, Processor};
 use refusal::{Cause, Refusal};
 
+// The most instructions of one run.
+const MOST_IN_A_RUN: u32 = 1000000;
+
+// The most instructions that a session counts as done.
+const MOST_DONE: u32 = 4000000000;
+
 impl<P: Processor> Session<P> {
     // The next instruction, with its entry in the journal's next slot.
     fn advance<B: Bus>(&mut self, bus: &mut B, journal: &mut [Entry<P>]) -> Result<(), Refusal>
@@ -28,7 +34,7 @@ impl<P: Processor> Session<P> {
     {
         let before = self.processor;
         let undo = try_next(&mut self.processor, bus)?;
-        let _ = self.journal.push(journal, Entry { before, undo });
+        self.journal.push(journal, Entry { before, undo }).unwrap();
         self.count += 1;
         Ok(())
     }
@@ -97,10 +103,10 @@ impl<P: Processor> Session<P> {
             (snapshot self.old (B.Bus.view bus.old) journal.old) }
         ensures places { B.Bus.places bus.new ≡ B.Bus.places bus.old }
     {
-        if count > 1000000 {
+        if count > MOST_IN_A_RUN {
             return Err(Cause::RunTooLong.at(0));
         }
-        if count > 4000000000 - self.count {
+        if count > MOST_DONE - self.count {
             return Err(Cause::CountTooHigh.at(0));
         }
         Ok(self.run_on(bus, journal, count))

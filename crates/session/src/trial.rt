@@ -1,7 +1,7 @@
 // The two changes that a session makes, by definitions that stay shut.
 ghost use Rattle.std.specs.Prelude.{◌≡◌};
 ghost use Rattle.processor.specs.Views.{answer};
-ghost use Rattle.processor.specs.Rules.{state, moved, stepped, or_same, state_of, undo_of};
+ghost use Rattle.processor.specs.Rules.{state, or_same, state_of, undo_of};
 ghost use Rattle.session.specs.Trials.{tried, restored};
 
 use crate::entry::Entry;
@@ -10,20 +10,8 @@ use processor::bus::{Bus, Processor};
 use processor::step::{replace, step};
 use refusal::Refusal;
 
-// What the shut definitions stand for; a call of these does nothing.
-#[tactic(auto, unfolding(crate::specs::Trials::tried))]
-fn trying_steps<P: Processor, B: Bus>(processor: &P, bus: &B)
-    ensures { tried P.Processor.rules (state processor.now (B.Bus.view bus.now))
-        ≡ stepped P.Processor.rules (state processor.now (B.Bus.view bus.now)) }
-{}
-
-#[tactic(auto, unfolding(crate::specs::Trials::restored))]
-fn restoring_moves<P: Copy, B: Bus>(processor: &P, bus: &B, entry: Entry<P>)
-    ensures { restored (state processor.now (B.Bus.view bus.now)) entry
-        ≡ moved (B.Bus.view bus.now) entry.before entry.undo }
-{}
-
 // The next instruction.
+#[tactic(auto, unfolding(crate::specs::Trials::tried))]
 pub(crate) fn try_next<P: Processor, B: Bus>(
     processor: &mut P,
     bus: &mut B,
@@ -35,11 +23,11 @@ pub(crate) fn try_next<P: Processor, B: Bus>(
         (state processor.old (B.Bus.view bus.old)) }
     ensures places { B.Bus.places bus.new ≡ B.Bus.places bus.old }
 {
-    trying_steps(processor, bus);
     step(processor, bus)
 }
 
 // What an entry puts back.
+#[tactic(auto, unfolding(crate::specs::Trials::restored))]
 pub(crate) fn restore<P: Copy, B: Bus>(
     processor: &mut P,
     bus: &mut B,
@@ -52,6 +40,5 @@ pub(crate) fn restore<P: Copy, B: Bus>(
         (state processor.old (B.Bus.view bus.old)) }
     ensures places { B.Bus.places bus.new ≡ B.Bus.places bus.old }
 {
-    restoring_moves(processor, bus, entry);
     replace(processor, bus, entry.before, entry.undo)
 }

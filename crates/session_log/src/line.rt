@@ -36,7 +36,7 @@ pub struct Line<P> {
 }
 
 impl<P: Processor> Line<P> {
-    // A line that is to be filled in.
+    // A line that is to be filled in: a line lent to a log has to hold something before that.
     pub fn asking(call: Call) -> Line<P>
         ensures call { result.call ≡ call }
         ensures answer { result.answer ≡ Ok Forgotten }

@@ -12,6 +12,7 @@ pub fn check(tape: &[u32]) -> Result<(), Refusal>
 {
     let mut cursor = Cursor::start();
     let mut sum = 0u16;
+    // A loop and no chain: it carries a place and a sum from word to word, and ends early, at the first word that decides.
     for (i, word) in tape.iter().enumerate() {
         match Item::try_from(*word).map_err(|cause| cause.at(i))? {
             Item::Put(value) => {

@@ -4,3 +4,4 @@
 pub mod check;
 pub mod cursor;
 pub mod item;
+pub mod puts;
