@@ -6,13 +6,6 @@ ghost use Rattle.icmc_words.specs.Encoded.{WithinIfOk};
 use crate::instruction::{Condition, Instruction, ShiftKind};
 use refusal::{Cause, Refusal};
 
-fn bit(word: u16, i: u8) -> bool
-    requires { i < 16 }
-    ensures { result ≡ bit i word }
-{
-    (word >> i) % 2 == 1
-}
-
 // A field of a word: its lowest bit is bit `low`, and it stays below `bound`.
 fn bits(word: u16, low: u8, bound: u8) -> u8
     requires low { low < 16 }
@@ -21,6 +14,13 @@ fn bits(word: u16, low: u8, bound: u8) -> u8
     ensures within { result < bound }
 {
     ((word >> low) % u16::from(bound)) as u8
+}
+
+fn bit(word: u16, i: u8) -> bool
+    requires { i < 16 }
+    ensures { result ≡ bit i word }
+{
+    bits(word, i, 2) == 1
 }
 
 // A shift's kind, by bits 6 to 4: three bits, which all have one, so no conversion that could fail.
