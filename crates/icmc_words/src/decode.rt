@@ -37,6 +37,7 @@ fn shift(kind: u8) -> ShiftKind
     }
 }
 
+// One table in three parts, by op code: each part promises `within` of what it answers itself.
 impl Instruction {
     // The instruction of a word; a word that is none is refused.
     pub fn decode(word: u16) -> Result<Instruction, Refusal>
