@@ -31,6 +31,7 @@ impl Machine {
         self
     }
 
+    // This and the next two differ in the field that they write, which no parameter can stand for.
     pub(crate) fn with_pc(self, pc: u16) -> Machine
         ensures { result ≡ with_pc self pc }
     {
@@ -49,7 +50,8 @@ impl Machine {
         Machine { sp, ..self }
     }
 
-    // The mark that an instruction leaves.
+    // The mark that an instruction leaves. The machine's mark and the instruction are matched together, and the mark is changed in
+    // place: each pair of the two is one rule.
     pub(crate) fn remark(&mut self, instruction: Instruction)
         ensures { self.new ≡ with_mark self.old (mark_after instruction) }
     {

@@ -144,7 +144,7 @@ impl Machine {
     ) -> Result<Next<Machine>, Refusal>
         ensures { result ≡ answer (B.Bus.places bus.now) (carried_out instruction end self.now (B.Bus.view bus.now)) }
     {
-        let mut next = self.with_pc(self.pc.wrapping_add(instruction.size() as u16));
+        let mut next = self.with_pc(self.pc.wrapping_add(u16::from(instruction.size())));
         next.remark(instruction);
         self.perform(instruction, end, next, bus)
     }
@@ -169,7 +169,7 @@ impl Machine {
         ensures { result ≡ answer (B.Bus.places bus.now) (fetched self.now (B.Bus.view bus.now)) }
     {
         let word = bus.look(Side::Memory, self.pc)?;
-        let instruction = decode(word).map_err(|_| Cause::Unassigned.at(self.pc as usize))?;
+        let instruction = decode(word).map_err(|_| Cause::Unassigned.at(usize::from(self.pc)))?;
         self.with_operand(instruction, bus)
     }
 

@@ -31,7 +31,7 @@ impl Processor for Machine {
 
     fn register(&self, number: u16) -> Option<u16> {
         match number {
-            0..=7 => Some(self.registers[number as usize]),
+            0..=7 => Some(self.registers[usize::from(number)]),
             8 => Some(self.pc),
             9 => Some(self.fr),
             10 => Some(self.sp),

@@ -1,16 +1,26 @@
 // From words to instructions.
-ghost use Rattle.std.specs.Prelude.{◌≡◌, ◌<◌};
+ghost use Rattle.std.specs.Prelude.{◌≡◌, ◌<◌, ◌/◌, ◌%◌, ◌^◌};
 ghost use Rattle.icmc_words.specs.Decoded.{bit, shift_at, calculation, transfer, decoded};
 ghost use Rattle.icmc_words.specs.Encoded.{WithinIfOk};
 
 use crate::instruction::{Condition, Instruction, ShiftKind};
 use refusal::{Cause, Refusal};
 
+// A field of a word: its lowest bit is bit `low`, and it stays below `bound`.
+fn bits(word: u16, low: u8, bound: u8) -> u8
+    requires low { low < 16 }
+    requires bound { 0 < bound }
+    ensures value { result ≡ word / 2 ^ low % bound }
+    ensures within { result < bound }
+{
+    ((word >> low) % u16::from(bound)) as u8
+}
+
 fn bit(word: u16, i: u8) -> bool
     requires { i < 16 }
     ensures { result ≡ bit i word }
 {
-    (word >> i) % 2 == 1
+    bits(word, i, 2) == 1
 }
 
 // A shift's kind, by bits 6 to 4: three bits, which all have one, so no conversion that could fail.
@@ -27,14 +37,15 @@ fn shift(kind: u8) -> ShiftKind
     }
 }
 
+// One table in three parts, by op code: each part promises `within` of what it answers itself.
 impl Instruction {
     // The instruction of a word; a word that is none is refused.
     pub fn decode(word: u16) -> Result<Instruction, Refusal>
         ensures meaning { result ≡ decoded word }
         ensures within { WithinIfOk result }
     {
-        let x = ((word >> 7) % 8) as u8;
-        let k = ((word >> 6) % 16) as u8;
+        let x = bits(word, 7, 8);
+        let k = bits(word, 6, 16);
         match word >> 10 {
             0x00 => Ok(Instruction::Nop),
             0x02 if k < 15 => Ok(Instruction::Jump(Condition::at(k))),
@@ -58,11 +69,11 @@ fn decode_calculation(word: u16) -> Result<Instruction, Refusal>
     ensures meaning { result ≡ calculation word }
     ensures within { WithinIfOk result }
 {
-    let x = ((word >> 7) % 8) as u8;
-    let y = ((word >> 4) % 8) as u8;
-    let z = ((word >> 1) % 8) as u8;
+    let x = bits(word, 7, 8);
+    let y = bits(word, 4, 8);
+    let z = bits(word, 1, 8);
     match word >> 10 {
-        0x10 => Ok(Instruction::Shift(shift(y), x, (word % 16) as u8)),
+        0x10 => Ok(Instruction::Shift(shift(y), x, bits(word, 0, 16))),
         0x12 => Ok(Instruction::And(x, y, z)),
         0x13 => Ok(Instruction::Or(x, y, z)),
         0x14 => Ok(Instruction::Xor(x, y, z)),
@@ -88,8 +99,8 @@ fn decode_transfer(word: u16) -> Result<Instruction, Refusal>
     ensures meaning { result ≡ transfer word }
     ensures within { WithinIfOk result }
 {
-    let x = ((word >> 7) % 8) as u8;
-    let y = ((word >> 4) % 8) as u8;
+    let x = bits(word, 7, 8);
+    let y = bits(word, 4, 8);
     match word >> 10 {
         0x30 => Ok(Instruction::Load(x)),
         0x31 => Ok(Instruction::Store(x)),

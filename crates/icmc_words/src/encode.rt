@@ -58,7 +58,7 @@ impl Instruction {
         ensures within { result < 1024 }
     {
         match self {
-            Instruction::Jump(condition) | Instruction::Call(condition) => condition as u16 * 64,
+            Instruction::Jump(k) | Instruction::Call(k) => u16::from(u8::from(k)) * 64,
             Instruction::Shift(kind, _, _) => kind as u16 * 16,
             Instruction::PushFr | Instruction::PopFr | Instruction::Dec(..) => 64,
             Instruction::Setc => 512,
