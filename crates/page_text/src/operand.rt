@@ -82,7 +82,7 @@ pub(crate) fn expect(tokens: &mut Tokens<'_>, token: Token<'_>) -> Result<(), Ca
     Ok(())
 }
 
-// N registers, with commas between them.
+// N registers, with commas between them. A loop, since nothing is known of tokens that a closure has read on.
 pub(crate) fn registers<const N: usize>(tokens: &mut Tokens<'_>) -> Result<[Register; N], Cause>
     ensures { ReadsBy (map (λ x. x.number)) (registers N (rest tokens.old)) result tokens.new }
 {

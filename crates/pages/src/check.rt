@@ -51,7 +51,7 @@ fn check_line(line: &[u8], slots: &[Label], so_far: Progress) -> Option<Progress
     })
 }
 
-// Whether the first slots hold the labels of all lines.
+// Whether the first slots hold the labels of all lines. A loop, since a fold may not ask that the labels found so far lie in the slots.
 fn check_lines(text: &[u8], slots: &[Label]) -> Option<Progress>
     ensures { result ≡ held slots.now (gathers (length slots.now) (page text.now) [] 0 1) }
 {

@@ -16,6 +16,7 @@ use page_tokens::Name;
 use refusal::Cause;
 use shelf::slice_vec::SliceVec;
 
+// What a line says can always be encoded, which its type does not say.
 fn first_word(instruction: Instruction) -> u16
     ensures { result ≡ first_word instruction }
 {
