@@ -1,7 +1,7 @@
 use Rattle.std.proofs.Common.{◌≡◌, ℕ, Bool, true, false, cond, eqb, List, [], ◌∷◌, Some, Ok, Err, Option, Result, sym, refl, ap, ◌∙◌}
 use Rattle.refusal.specs.declared.Refusal.{Refusal}
 use Rattle.processor.specs.declared.Side.TheVariants.{Memory}
-use Rattle.processor.specs.Views.{Cell, View, Fault, Places, probe, probed, exchange, yielded, put_if, put_into}
+use Rattle.processor.specs.Views.{Cell, View, Fault, Places, answer, probe, probed, exchange, yielded, put_if, put_into}
 use Rattle.tape.specs.declared.cursor.CellWord.{CellWord}
 use Rattle.tape.specs.Puts.{puts}
 use Rattle.tape.specs.Checks.{checked}
@@ -35,7 +35,17 @@ writes_put v (p ∷ ps) h =
     ap (λ (x : View). write_all x ps) (written_ok v p.at p.word (exchange v Memory p.at) q.0)
     ∙ writes_put (put_into Memory v p.at p.word) ps (still_all v p.at p.word ps q.1)
 
--- a tape whose addresses are all probed is put into the memory by writes
+-- a tape that is accepted and whose addresses are all probed is put into the memory
+answer_ok : (p : Places) (o : Result Unit Fault) → Ok tt ≡ answer p o → o ≡ Ok tt
+answer_ok p (Ok u) h = refl
+answer_ok p (Err f) h = cc
+
+pub load_done : (p : Places) (v w : View) (tape : List ℕ) → Ok tt ≡ checked tape → Ok tt ≡ answer p (probe_all v (puts tape)) → w ≡ write_all v (puts tape) → loaded p v tape ≡ Ok w
+load_done p v w tape a b e =
+    let q = answer_ok p (probe_all v (puts tape)) b in
+    ap (tape_told p v tape) (sym a) ∙ (ap (probes_told p v (puts tape)) q ∙ ap (λ (x : View). Ok x) (sym (e ∙ writes_put v (puts tape) q)))
+
+-- so a tape is put into the memory by writes
 by_probes : (p : Places) (v : View) (ps : List CellWord) (o : Result Unit Fault) → probe_all v ps ≡ o → probes_told p v ps o ≡ probes_written p v ps o
 by_probes p v ps (Ok u) e = ap (λ (x : View). Ok x) (sym (writes_put v ps e))
 by_probes p v ps (Err f) e = refl
