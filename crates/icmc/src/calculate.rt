@@ -48,7 +48,7 @@ impl Machine {
         next.with_logic(x, operation.compute(self.reg(y), self.reg(z)), self.fr)
     }
 
-    // The result of an instruction on `self`, put into `next`.
+    // The result of an instruction on `self`, put into `next`. One arm for each rule; a table of functions says it no plainer.
     #[tactic(auto, unfolding(crate::specs::Calculations::calculation))]
     pub(crate) fn calculate(&self, instruction: Instruction, next: Machine) -> Machine
         ensures { result ≡ calculation instruction self.now next }

@@ -77,7 +77,7 @@ impl Machine {
         next.with_pc(end).push(self.sp, self.pc.wrapping_add(1))
     }
 
-    // What an instruction on `self` with its second word comes to; `next` is `self` with mark and PC moved on.
+    // What an instruction on `self` with its second word comes to; `next` is `self` with mark and PC moved on. One arm for each rule.
     fn perform<B: Bus>(
         &self,
         instruction: Instruction,

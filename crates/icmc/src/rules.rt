@@ -30,6 +30,7 @@ impl Processor for Machine {
     }
 
     fn register(&self, number: u16) -> Option<u16> {
+        // one arm for each number that a look may ask for
         match number {
             0..=7 => Some(self.registers[usize::from(number)]),
             8 => Some(self.pc),

@@ -5,7 +5,7 @@ ghost use Rattle.icmc_alu.specs.Conditions.{holds};
 use crate::flags::{Flag, has_flag};
 use icmc_words::Condition;
 
-// Whether a condition holds, by FR.
+// Whether a condition holds, by FR: one arm for each, as in the definition.
 pub fn holds(condition: Condition, fr: u16) -> bool
     ensures { result ≡ holds condition fr }
 {

@@ -37,9 +37,10 @@ fn shift(kind: u8) -> ShiftKind
     }
 }
 
-// One table in three parts, by op code: each part promises `within` of what it answers itself.
+// One table in three parts, by op code: each part promises `within` of what it answers itself. A match, since its guards look at other
+// bits too.
 impl Instruction {
-    // The instruction of a word; a word that is none is refused.
+    // The instruction of a word; a word that is none is refused. No `TryFrom`, which has one promise where callers need two.
     pub fn decode(word: u16) -> Result<Instruction, Refusal>
         ensures meaning { result ≡ decoded word }
         ensures within { WithinIfOk result }

@@ -6,7 +6,7 @@ use crate::instruction::Instruction;
 use refusal::{Cause, Refusal};
 
 impl Instruction {
-    // The word of an instruction, its spare bits 0; an operand out of range is refused.
+    // The word of an instruction, its spare bits 0; an operand out of range is refused. Named as `decode` is.
     pub fn encode(self) -> Result<u16, Refusal>
         ensures { result ≡ encoded self }
     {
@@ -70,7 +70,7 @@ impl Instruction {
         }
     }
 
-    // The operands, each in its bits.
+    // The operands, each in its bits: one arm for each layout.
     fn operands(self) -> Result<u16, Refusal>
         ensures { result ≡ joined (layout self).fields }
     {

@@ -92,8 +92,8 @@ pub enum Form {
     Static,
 }
 
-// The instructions of the groups. Their methods are no trait over a number of registers: an impl at `[Register; 2]` is not given the trait's clauses yet, and would
-// have to repeat them.
+// The instructions of the groups. Their methods are no trait over a number of registers: an impl at `[Register; 2]` is not given the
+// trait's clauses yet, and would have to repeat them.
 impl NoRegisters {
     pub(crate) fn instruction(self) -> Encodable
         ensures { result.instruction ≡ on_none self }

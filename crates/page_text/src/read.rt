@@ -143,7 +143,7 @@ fn read_static<'a>(tokens: &mut Tokens<'_>) -> Result<Statement<'a>, Cause>
     end(tokens, Statement::Static(name, index, value))
 }
 
-// The operands of a form.
+// The operands of a form: one arm for each rule of the grammar.
 pub(crate) fn read_operands<'a>(tokens: &mut Tokens<'a>, form: Form) -> Result<Statement<'a>, Cause>
     ensures { said result ≡ operands form (rest tokens.old) }
 {

@@ -19,6 +19,7 @@ pub struct Lines<'a> {
 }
 
 impl<'a> Lines<'a> {
+    // All lines of a text. No `From`, since the same bytes can be read as tokens.
     pub fn of(text: &'a [u8]) -> Lines<'a>
         ensures { result.rest.now ≡ text.now }
     {

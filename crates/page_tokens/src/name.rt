@@ -9,7 +9,7 @@ pub struct Name {
 }
 
 impl Name {
-    // The name of at most 32 bytes.
+    // The name of at most 32 bytes, which a `From` could not ask for.
     pub(crate) fn of(word: &[u8]) -> Name
         requires { length word.now ≤ 32 }
         ensures { result ≡ named word.now }

@@ -16,6 +16,7 @@ pub enum Token<'a> {
     Plus,
     // the letters between two quotes
     Quoted(&'a [u8]),
+    // what is no token: a symbol of the rules, and no error until a reader comes to it
     Malformed,
 }
 
@@ -72,7 +73,7 @@ fn read_word(bytes: &[u8]) -> (Token<'_>, &[u8])
     }
 }
 
-// The token at the front of bytes that begin with no blank, and what follows it; a comment is none.
+// The token at the front of bytes that begin with no blank, and what follows it; a comment is none. One arm for each sign.
 fn read_front(bytes: &[u8]) -> Option<(Token<'_>, &[u8])>
     ensures { front_of result ≡ front_piece bytes.now }
 {
@@ -95,6 +96,7 @@ pub struct Tokens<'a> {
 }
 
 impl<'a> Tokens<'a> {
+    // All tokens of a line. No `From`, since the same bytes can be read as lines.
     pub fn of(line: &'a [u8]) -> Tokens<'a>
         ensures { result.rest.now ≡ line.now }
     {

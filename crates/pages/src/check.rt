@@ -10,7 +10,8 @@ use crate::label::Label;
 use crate::line::{Gain, add_line};
 use page_tokens::Lines;
 
-// How many labels are in the first slots up to this line, and the address after it.
+// How many labels are in the first slots up to this line, and the address after it. Copied from line to line, which `Gathered`, handed
+// on once, is not.
 #[derive(Clone, Copy, Debug, PartialEq, Eq)]
 pub(crate) struct Progress {
     pub(crate) labels: usize,

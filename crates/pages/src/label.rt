@@ -13,7 +13,7 @@ pub struct Label {
 }
 
 impl Label {
-    // What an empty slot holds: no line has a name of blanks.
+    // What an empty slot holds, since lent slots have to hold something: no line has a name of blanks.
     pub fn vacant() -> Label
         ensures { result ≡ no_label }
     {

@@ -37,7 +37,7 @@ fn room(statement: Statement<'_>) -> u16
     }
 }
 
-// Whether a line's name is new, and a slot is left for it.
+// Whether a line's name is new, and a slot is left for it: one arm for each refusal, in their order.
 fn check_name(name: Option<Name>, labels: &[Label], slots: usize) -> Result<(), Cause>
     ensures { result ≡ checked_name (name_fault slots labels.now name) }
 {

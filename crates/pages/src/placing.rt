@@ -16,7 +16,7 @@ use page_tokens::Lines;
 use refusal::{Cause, Refusal};
 use shelf::slice_vec::SliceVec;
 
-// A placed program: how many words it has.
+// A placed program: how many words it has. The words are the lender's, who reads them after the loan.
 #[derive(Debug, Drop)]
 pub struct Placed {
     pub(crate) size: usize,

@@ -45,6 +45,7 @@ fn fix(
 {
     match scope.find_above(name) {
         Some(label) if index < label.room => {
+            // always an old word, which nobody asks for: a variable above lies in the words so far
             let _ = program.replace(usize::from(label.address) + usize::from(index), value);
             Ok(())
         }

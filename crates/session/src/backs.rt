@@ -78,6 +78,7 @@ impl<P: Processor> Session<P> {
         ensures places { B.Bus.places bus.new ≡ B.Bus.places bus.old }
     {
         let used = self.journal.len();
+        // `as`, since `usize` has no `From<u32>`
         if used < count as usize || (count > 0 && journal.len() < used) {
             return Err(Cause::BackTooFar.at(0));
         }

@@ -12,7 +12,7 @@ pub struct Entry<P> {
 }
 
 impl<P: Processor> Entry<P> {
-    // What a slot can hold before a session uses it.
+    // What a slot holds before a session uses it, since lent slots have to hold something.
     pub fn vacant() -> Entry<P>
         ensures before { result.before ≡ P.Processor.rules.start 0 }
         ensures undo { result.undo ≡ None }

@@ -28,6 +28,7 @@ fn write_tape<B: Bus>(bus: &mut B, tape: &[u32])
     ensures places { B.Bus.places bus.new ≡ B.Bus.places bus.old }
 {
     for put in Puts::of(tape) {
+        // the word that was there is not asked for, and each address was probed before
         let _ = bus.exchange(Side::Memory, put.at, put.word);
     }
 }

@@ -16,7 +16,7 @@ pub struct SliceVec<'a, T> {
 impl<'a, T> SliceVec<'a, T> {
     ghost use Rattle.shelf.specs.SliceVecs.{items, NowHolds};
 
-    // No slot in use.
+    // No slot in use. No `From`, which would read as if all were.
     pub fn of(slots: &'a mut [T]) -> SliceVec<'a, T>
         ensures same_slots { result.slots.ghost_name ≡ slots.entry.ghost_name }
         ensures slots { result.slots.now ≡ slots.old }

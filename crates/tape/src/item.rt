@@ -16,7 +16,7 @@ pub enum Item {
     End(u16),
 }
 
-// The item of a tape word, if the word is well formed.
+// The item of a tape word, if the word is well formed: one arm for each kind.
 impl TryFrom<u32> for Item {
     type Error = Cause;
 

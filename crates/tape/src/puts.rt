@@ -13,7 +13,7 @@ pub struct Puts<'a> {
 }
 
 impl<'a> Puts<'a> {
-    // All that a tape puts.
+    // All that a tape puts. No `From`, since a tape is no list of what it puts.
     pub fn of(tape: &'a [u32]) -> Puts<'a>
         ensures { puts_from result.cursor.place result.rest.now ≡ puts tape.now }
     {
