@@ -107,6 +107,7 @@ def point_4():
         r"fn (?:same|eq|cmp|number|numbered|of|mask|kind_bits|shift_at|refused|decode|encode)\b", r"fn at\(k",
         r"fn shift\(kind: u8")
     yield "a derive with no comparison", grep(r"#\[derive\(Clone, Copy\)\]")
+    yield "an `as` that may only widen", grep(r"\bas (?:usize|u32|u64|i64)\b")
 
 
 def point_5():

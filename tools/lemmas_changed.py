@@ -1,5 +1,5 @@
 #!/usr/bin/env python3
-"""Lists the lemmas of crates/*/proofs that changed since a commit: gone, new, and stated otherwise.
+"""Lists the public lemmas of crates/*/proofs that changed since a commit: gone, new, and stated otherwise.
 
 usage: tools/lemmas_changed.py COMMIT      run at the top of a checkout
 """
@@ -37,7 +37,7 @@ def all_lemmas(commit):
             crate = name.split("/")[1]
             module = name.split("/")[-1].removesuffix(".antt")
             for lemma, statement in lemmas(git("show", f"{commit}:{name}")).items():
-                result[(crate, lemma)] = (module, statement)
+                result[(crate, module, lemma)] = statement
     return result
 
 
@@ -45,12 +45,12 @@ def main():
     old, new = all_lemmas(sys.argv[1]), all_lemmas("HEAD")
     for title, keys in (("gone", sorted(set(old) - set(new))), ("new", sorted(set(new) - set(old)))):
         print(f"{title}: {len(keys)}")
-        for crate, lemma in keys:
-            print(f"    {crate} {(old if title == 'gone' else new)[(crate, lemma)][0]} {lemma}")
-    other = sorted(k for k in set(old) & set(new) if old[k][1] != new[k][1])
+        for crate, module, lemma in keys:
+            print(f"    {crate} {module} {lemma} : {(old if title == 'gone' else new)[(crate, module, lemma)]}")
+    other = sorted(k for k in set(old) & set(new) if old[k] != new[k])
     print(f"stated otherwise: {len(other)}")
     for key in other:
-        print(f"    {key[0]} {key[1]}\n        - {old[key][1]}\n        + {new[key][1]}")
+        print(f"    {' '.join(key)}\n        - {old[key]}\n        + {new[key]}")
     print(f"the same: {len(set(old) & set(new)) - len(other)}")
 
 
