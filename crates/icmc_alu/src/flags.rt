@@ -18,7 +18,7 @@ pub enum Flag {
 }
 
 impl Flag {
-    // The word with this flag's bit alone.
+    // The word with this flag's bit alone: what is masked by it, and not another form of the flag.
     pub fn mask(self) -> u16
         ensures { result ≡ mask self }
     {

@@ -1,4 +1,4 @@
-// Rounds of a run and a forget.
+// Rounds of a run and a forget. Bus and journal are named by each call, as by the session's own.
 ghost use Rattle.std.specs.Prelude.{◌≡◌, length, IfOk};
 ghost use Rattle.session.specs.Runs.{told_stop};
 ghost use Rattle.session.specs.Opens.{loaded, load_answer};

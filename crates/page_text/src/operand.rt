@@ -42,6 +42,7 @@ fn in_range(value: u32) -> Result<u16, Cause>
     u16::try_from(value).map_err(|_| Cause::OutOfRange)
 }
 
+// A number of the grammar, which is one of 16 bits.
 pub(crate) fn number(tokens: &mut Tokens<'_>) -> Result<u16, Cause>
     ensures { Reads (number (rest tokens.old)) result tokens.new }
 {
@@ -51,7 +52,7 @@ pub(crate) fn number(tokens: &mut Tokens<'_>) -> Result<u16, Cause>
     }
 }
 
-// The second word of an instruction.
+// The second word of an instruction: one arm for each kind of token.
 pub(crate) fn address(tokens: &mut Tokens<'_>) -> Result<Operand, Cause>
     ensures { Reads (address (rest tokens.old)) result tokens.new }
 {

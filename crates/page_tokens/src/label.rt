@@ -7,6 +7,7 @@ use crate::name::Name;
 use crate::token::{Token, Tokens};
 
 // Puts back the tokens at its end, unless the colon was found: then none are to be put back. So no way out of a look can forget to.
+// Nobody prints or compares it.
 struct Look<'t, 'a> {
     tokens: &'t mut Tokens<'a>,
     back: Option<Tokens<'a>>,

@@ -12,7 +12,7 @@ fn past_end(ended: &[u8]) -> &[u8]
     ended.get(1..).unwrap_or(ended)
 }
 
-// The lines that are left of a text, without their ends.
+// The lines that are left of a text, without their ends. An iterator is not compared.
 #[derive(Clone, Copy, Debug)]
 pub struct Lines<'a> {
     rest: &'a [u8],

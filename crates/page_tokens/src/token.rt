@@ -89,7 +89,7 @@ fn read_front(bytes: &[u8]) -> Option<(Token<'_>, &[u8])>
     }
 }
 
-// The tokens that are left of a line.
+// The tokens that are left of a line. An iterator is not compared.
 #[derive(Clone, Copy, Debug)]
 pub struct Tokens<'a> {
     rest: &'a [u8],

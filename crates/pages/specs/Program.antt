@@ -60,7 +60,7 @@ with_line ls k ws (Err c) = Err c
 unfoldable pub extended : List Label → ℕ → List ℕ → Reading → Result (List ℕ) Cause
 extended ls k ws l = with_line ls k ws l.saying
 
--- a line's words lie within the words lent
+-- a line's words lie within the words lent; a line that is refused has none, which no number of slots says
 abbrev pub Fits : ℕ → ℕ → Result Saying Cause → Type 0
 Fits at words (Ok s) = at + size_of s ≤ words
 Fits at words (Err c) = Unit {0}

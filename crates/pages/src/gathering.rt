@@ -11,7 +11,7 @@ use page_tokens::Lines;
 use refusal::{Cause, Refusal};
 use shelf::slice_vec::SliceVec;
 
-// A text that was gathered: how many names it has, and how many words it takes.
+// A text that was gathered: how many names it has, and how many words it takes. It is given up to place the text, and not compared.
 #[derive(Debug, Drop)]
 pub struct Gathered {
     pub(crate) labels: usize,

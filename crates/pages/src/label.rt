@@ -4,7 +4,8 @@ ghost use Rattle.pages.specs.Labels.{no_label, find_label};
 
 use page_tokens::Name;
 
-// A name, the address of its line, and how many words its line's variable has; 0 where the line is no variable.
+// A name, the address of its line, and how many words its line's variable has; 0 where the line is no variable, so that one comparison
+// tells whether a word lies in it.
 #[derive(Clone, Copy, Debug, PartialEq, Eq)]
 pub struct Label {
     pub name: Name,
@@ -34,7 +35,7 @@ pub fn find(labels: &[Label], name: &Name) -> Option<Label>
     labels.iter().find(|label| label.name == *name).copied()
 }
 
-// The labels of a page, of which so many are on the lines up to one of them.
+// The labels of a page, of which so many are on the lines up to one of them. Nobody compares two of these.
 #[derive(Clone, Copy, Debug)]
 pub(crate) struct Scope<'a> {
     pub(crate) labels: &'a [Label],

@@ -74,6 +74,7 @@ fn add_words(name: Option<Name>, at: usize, statement: Statement<'_>) -> Result<
 }
 
 // What a line adds at an address, after lines with these labels: its name is checked first, then its statement, then its words.
+// The labels and how many slots there are: checking reads labels in slots of which no more are used, so no list that grows has both.
 #[tactic(auto, unfolding(crate::specs::Page::gained))]
 pub(crate) fn add_line(
     line: &[u8],

@@ -17,6 +17,7 @@ use refusal::{Cause, Refusal};
 use shelf::slice_vec::SliceVec;
 
 // A placed program: how many words it has. The words are the lender's, who reads them after the loan.
+// It is given up to tape the program, and not compared.
 #[derive(Debug, Drop)]
 pub struct Placed {
     pub(crate) size: usize,

@@ -6,7 +6,7 @@ ghost use Rattle.processor.specs.Rules.{Rules};
 use crate::{Mark, Next, Side};
 use refusal::Refusal;
 
-// Memory, screen and keys as one thing.
+// Memory, screen and keys as one thing. Addresses and words are plain arguments, since others implement it.
 pub trait Bus {
     // all that can be seen
     ghost view: { Self → View };

@@ -1,4 +1,4 @@
-// A page from its text to its tape.
+// A page from its text to its tape. Slots, words and places are lent to one call after another, so each names them.
 ghost use Rattle.std.specs.Prelude.{◌≡◌, ◌≤◌, length, take, IfOk, Ok, Err, MatchResult};
 ghost use Rattle.scoring.specs.Assembly.{program_of, taped, assembled, size_answer, tape_then, Translated, PagePlaced, PageTaped};
 ghost use Rattle.taping.specs.Tapes.{HoldsProgram};

@@ -13,6 +13,7 @@ use refusal::Refusal;
 use session::entry::Entry;
 
 // Scores a page: it is assembled in the slots, words and places lent, opened in the memory with the stack at its start, and run to its end.
+// All that is lent is named, as in `assemble`.
 pub fn score<B: Bus>(
     text: &[u8],
     labels: &mut [Label],

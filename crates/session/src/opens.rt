@@ -48,7 +48,7 @@ fn load<B: Bus>(bus: &mut B, tape: &[u32]) -> Result<(), Refusal>
 }
 
 impl<P: Processor> Session<P> {
-    // A session on a tape, with the stack pointer as given and no journal slot in use.
+    // A session on a tape, with the stack pointer as given and no journal slot in use: two plain arguments, asked for once.
     pub fn open<B: Bus>(bus: &mut B, tape: &[u32], stack: u16) -> Result<Session<P>, Refusal>
         ensures answer { own_answer result ≡ opened P.Processor.rules stack
             (loaded (B.Bus.places bus.old) (B.Bus.view bus.old) tape.now) }

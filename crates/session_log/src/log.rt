@@ -1,4 +1,4 @@
-// Logs of calls.
+// Logs of calls. Bus and journal are named by each call, as by the session's own.
 ghost use Rattle.std.specs.Prelude.{◌≡◌, length, MatchResult};
 ghost use Rattle.processor.specs.Rules.{State};
 ghost use Rattle.session.specs.Snapshots.{snapshot};

@@ -5,7 +5,7 @@ ghost use Rattle.shelf.specs.Slots.{push_answer, records_pushed};
 
 use crate::{Full, Shelf};
 
-// The slots lent, and the shelf on them.
+// The slots lent, and the shelf on them. What is lent to be written has no `==`.
 #[derive(Debug, Drop)]
 pub struct SliceVec<'a, T> {
     slots: &'a mut [T],

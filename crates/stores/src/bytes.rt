@@ -7,7 +7,7 @@ use crate::lent::{cell, present};
 use crate::{ReadStore, WriteStore};
 use refusal::Refusal;
 
-// The bytes lent: word a is the bytes 2a and 2a + 1, the high one first, all open. An odd last byte is in no word.
+// The bytes lent: word a is the bytes 2a and 2a + 1, the high one first, all open. An odd last byte is in no word. No `==`, as for Words.
 #[derive(Debug, Drop)]
 pub struct Bytes<'a> {
     pub bytes: &'a mut [u8],

@@ -26,7 +26,7 @@ pub trait ReadStore {
         ensures { result ≡ reads (shown self.now at) (place self.now at) };
 }
 
-// A store whose addresses are also open or closed, for as long as it lives.
+// A store whose addresses are also open or closed, for as long as it lives. Plain arguments, since others implement it.
 pub trait WriteStore: ReadStore {
     // which addresses are open
     ghost unlocked: { Self → Locks };

@@ -6,7 +6,7 @@ use crate::lent::{cell, present};
 use crate::{ReadStore, WriteStore};
 use refusal::Refusal;
 
-// The words lent, from address 0, all open.
+// The words lent, from address 0, all open. What is lent to be written has no `==`.
 #[derive(Debug, Drop)]
 pub struct Words<'a> {
     pub words: &'a mut [u16],

@@ -5,7 +5,7 @@ ghost use Rattle.tape.specs.Puts.{puts, puts_from};
 
 use crate::cursor::{CellWord, Cursor};
 
-// What is left to put: the words that are left of a tape, and the place of the next one.
+// What is left to put: the words that are left of a tape, and the place of the next one. An iterator is not compared.
 #[derive(Clone, Copy, Debug)]
 pub struct Puts<'a> {
     cursor: Cursor,

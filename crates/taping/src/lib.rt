@@ -9,7 +9,7 @@ use pages::Placed;
 use refusal::{Cause, Refusal};
 use shelf::slice_vec::SliceVec;
 
-// A program that was not taped, handed back, and why.
+// A program that was not taped, handed back, and why; not compared, as a program is not.
 #[derive(Debug, Drop)]
 pub struct Untaped {
     pub placed: Placed,
