@@ -25,6 +25,14 @@ impl<'a> Lines<'a> {
     {
         Lines { rest: text }
     }
+
+    // The bytes that are left.
+    pub fn rest(&self) -> &'a [u8]
+        ensures { result.now ≡ self.now.rest.now }
+    {
+        let Lines { rest } = *self;
+        rest
+    }
 }
 
 impl<'a> Iterator for Lines<'a> {

@@ -1,5 +1,5 @@
 // The tokens of a line.
-ghost use Rattle.std.specs.Prelude.{◌≡◌, ◌≤◌, length, Some, IfSome};
+ghost use Rattle.std.specs.Prelude.{◌≡◌, ◌≤◌, [], length, Some, MatchOption};
 ghost use Rattle.std.specs.Iterator.{YieldsFirstBy, item_count};
 ghost use Rattle.page_tokens.specs.Symbols.{decimal, symbol_of, piece_of, front_of, spoiled, number_piece, quoted_piece, word_piece, front_piece, first_token, symbols};
 
@@ -102,19 +102,29 @@ impl<'a> Tokens<'a> {
     {
         Tokens { rest: line }
     }
+
+    // The bytes that are left; all are read once there is no more token.
+    pub fn rest(&self) -> &'a [u8]
+        ensures { result.now ≡ self.now.rest.now }
+    {
+        let Tokens { rest } = *self;
+        rest
+    }
 }
 
 impl<'a> Iterator for Tokens<'a> {
     type Item = Token<'a>;
 
     ghost next_gives = { λ s r t. YieldsFirstBy symbol_of (λ s. symbols s.rest.now) s r t
-        × IfSome r (λ token. first_token s.rest.now ≡ Some (symbol_of token, t.rest.now)) };
+        × MatchOption r (t.rest.now ≡ []) (λ token. first_token s.rest.now ≡ Some (symbol_of token, t.rest.now)) };
 
     ghost remaining = { item_count (λ s. symbols s.rest.now) };
 
     fn next(&mut self) -> Option<Token<'a>> {
-        let (_, rest) = split_front(self.rest, Class::Blank);
-        let (token, rest) = read_front(rest)?;
+        let (_, front) = split_front(self.rest, Class::Blank);
+        // where no token is left, blanks and comment are read too
+        self.rest = &[];
+        let (token, rest) = read_front(front)?;
         self.rest = rest;
         Some(token)
     }

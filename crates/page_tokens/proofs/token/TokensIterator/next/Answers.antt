@@ -4,6 +4,7 @@ use Rattle.page_tokens.proofs.SymbolLaws.{symbols_front, token_front}
 use Rattle.page_tokens.proofs.token.TokensIterator.next.Goals as goal
 
 pub returns-in_err-token-clause-steps : goal.returns-in_err-token-clause-steps
+unfolding symbols
 returns-in_err-token-clause-steps c =
     let f = symbols_front c.args.self.now.rest.now _ c.read_front.result c.split_front.ensures.left c.read_front.ensures in
     search rules
