@@ -50,6 +50,15 @@ is_above a = int_lt (pos 65535) (number_of a)
 abbrev pub is_below : Outcome → Bool
 is_below a = int_lt (number_of a) (pos 0)
 
+-- FR with five flags written for a word, above or below the words, by a division by zero or not
+abbrev pub arithmetic_flags : ℕ → Bool → Bool → Bool → ℕ → ℕ
+arithmetic_flags w above below by_zero fr =
+    with_flag Zero (w == 0)
+    (with_flag Carry above
+    (with_flag Overflow (above || below)
+    (with_flag Negative below
+    (with_flag DivisionByZero by_zero fr))))
+
 -- FR after arithmetic: five flags are written
 abbrev pub five_flags : Outcome → ℕ → ℕ
 five_flags a fr =

@@ -1,6 +1,6 @@
 // Arithmetic on words, by way of whole numbers.
 ghost use Rattle.std.specs.Prelude.{◌≡◌};
-ghost use Rattle.icmc_alu.specs.Whole.{arithmetic, word_of, five_flags, executed};
+ghost use Rattle.icmc_alu.specs.Whole.{arithmetic, word_of, is_above, is_below, arithmetic_flags, five_flags, executed};
 ghost use Rattle.icmc_alu.specs.Laws.{ArithmeticLaws};
 
 use crate::flags::{Flag, with_flag};
@@ -72,17 +72,41 @@ impl Outcome {
         self.whole.unwrap_or(0).rem_euclid(65536) as u16
     }
 
+    // Whether the whole number lies above the words.
+    pub fn is_above(self) -> bool
+        ensures { result ≡ is_above self }
+    {
+        self.whole.unwrap_or(0) > 65535
+    }
+
+    // Whether it lies below them.
+    pub fn is_below(self) -> bool
+        ensures { result ≡ is_below self }
+    {
+        self.whole.unwrap_or(0) < 0
+    }
+
     // FR with the five flags of arithmetic written, and every other bit kept.
     pub fn flags(self, fr: u16) -> u16
         ensures { result ≡ five_flags self fr }
     {
-        let whole = self.whole.unwrap_or(0);
-        let above = whole > 65535;
-        let below = whole < 0;
-        let fr = with_flag(fr, Flag::DivisionByZero, self.whole.is_none());
-        let fr = with_flag(fr, Flag::Negative, below);
-        let fr = with_flag(fr, Flag::Overflow, above || below);
-        let fr = with_flag(fr, Flag::Carry, above);
-        with_flag(fr, Flag::Zero, self.word() == 0)
+        with_arithmetic_flags(
+            fr,
+            self.word(),
+            self.is_above(),
+            self.is_below(),
+            self.whole.is_none(),
+        )
     }
+}
+
+// FR with the five flags written for any word, on whichever side of the words its number is said to lie, and every other bit kept.
+pub fn with_arithmetic_flags(fr: u16, word: u16, above: bool, below: bool, by_zero: bool) -> u16
+    ensures { result ≡ arithmetic_flags word above below by_zero fr }
+{
+    let fr = with_flag(fr, Flag::DivisionByZero, by_zero);
+    let fr = with_flag(fr, Flag::Negative, below);
+    let fr = with_flag(fr, Flag::Overflow, above || below);
+    let fr = with_flag(fr, Flag::Carry, above);
+    with_flag(fr, Flag::Zero, word == 0)
 }

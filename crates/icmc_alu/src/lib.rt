@@ -8,7 +8,7 @@ pub mod flags;
 pub mod logic;
 pub mod shifts;
 
-pub use arithmetic::{Arithmetic, Executed, Outcome};
+pub use arithmetic::{Arithmetic, Executed, Outcome, with_arithmetic_flags};
 pub use comparison::compare;
 pub use conditions::holds;
 pub use flags::{Flag, has_flag, with_flag, with_zero};
