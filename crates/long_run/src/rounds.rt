@@ -15,11 +15,10 @@ use refusal::Refusal;
 use session::answers::Stop;
 use session::entry::Entry;
 use session::state::Session;
-use session_log::line::{Answer, Call};
-use session_log::log::replay;
-use session_log::serve::serve;
+use session_log::line::{Answer, Call, Line};
+use session_log::log::{carry_on, replay};
 
-// The stop that a run answers.
+// The stop on a line that a run is asked for on.
 fn stop_of(answer: Result<Answer, Refusal>) -> Stop
     ensures { result ≡ stop_of answer }
 {
@@ -31,7 +30,7 @@ fn stop_of(answer: Result<Answer, Refusal>) -> Stop
     }
 }
 
-// One round: 1,000 instructions, then all journal slots freed.
+// One round: 1,000 instructions, then all journal slots freed; a further piece of the page's log.
 fn round<B: Bus>(
     session: &mut Session<Machine>,
     bus: &mut B,
@@ -44,9 +43,9 @@ fn round<B: Bus>(
         (snapshot session.old (B.Bus.view bus.old) journal.old)).after }
     ensures places { B.Bus.places bus.new ≡ B.Bus.places bus.old }
 {
-    let answer = serve(session, bus, journal, Call::Run(1000));
-    let _ = serve(session, bus, journal, Call::Forget);
-    stop_of(answer)
+    let mut lines = [Line::asking(Call::Run(1000)), Line::asking(Call::Forget)];
+    carry_on(session, bus, journal, &mut lines);
+    stop_of(lines[0].answer)
 }
 
 // At most 1,000 rounds, as long as each does its 1,000.
