@@ -1,6 +1,7 @@
 // Gathering: a page's names, put into slots.
-ghost use Rattle.std.specs.Prelude.{◌≡◌, [], length, IfOk};
+ghost use Rattle.std.specs.Prelude.{◌≡◌, [], length, IfOk, OnErr};
 ghost use Rattle.page_text.specs.Sayings.{line_read};
+ghost use Rattle.shelf.specs.SliceVecs.{items, NowHolds};
 ghost use Rattle.pages.specs.Laws.{NamesIfOk};
 ghost use Rattle.pages.specs.Page.{gathers, page, gathering, gather_answer, slots_after, GathersLine};
 
@@ -34,7 +35,8 @@ fn gather_line(
     at: usize,
     number: usize,
 ) -> Result<usize, Refusal>
-    ensures { GathersLine labels.old labels.new at number (line_read line.now) result }
+    ensures gathers { GathersLine labels.old labels.new at number (line_read line.now) result }
+    ensures kept { OnErr result (NowHolds labels.old labels.new (items labels.old)) }
 {
     let gain = add_line(line, labels.as_slice(), labels.capacity(), at).map_err(|cause| cause.at(
         number,

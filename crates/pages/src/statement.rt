@@ -1,7 +1,7 @@
 // The words of a statement.
-ghost use Rattle.std.specs.Prelude.{◌≡◌, take};
+ghost use Rattle.std.specs.Prelude.{◌≡◌, take, OnErr};
 ghost use Rattle.page_text.specs.Sayings.{saying_of};
-ghost use Rattle.shelf.specs.SliceVecs.{items};
+ghost use Rattle.shelf.specs.SliceVecs.{items, NowHolds};
 ghost use Rattle.pages.specs.Labels.{find_label};
 ghost use Rattle.pages.specs.Page.{size_of};
 ghost use Rattle.pages.specs.Program.{first_word, second_word, with_fixed, with_saying};
@@ -40,8 +40,9 @@ fn fix(
     index: u16,
     value: u16,
 ) -> Result<(), Cause>
-    ensures { Puts program.old program.new 0 (with_fixed (find_label (take scope.entry.above scope.entry.labels.now) name.now)
+    ensures fixed { Puts program.old program.new 0 (with_fixed (find_label (take scope.entry.above scope.entry.labels.now) name.now)
         (find_label scope.entry.labels.now name.now) index value (items program.old)) result }
+    ensures kept { OnErr result (NowHolds program.old program.new (items program.old)) }
 {
     match scope.find_above(name) {
         Some(label) if index < label.room => {

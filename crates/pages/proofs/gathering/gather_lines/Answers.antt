@@ -14,7 +14,7 @@ loop-i-preserved c =
     let new = c.next.new.self in
     let first : lines old.iter.rest.now ≡ c.in-Some.line.now ∷ lines new.iter.rest.now = search rules in
     let next : new.count ≡ old.count + 1 = search rules in
-    let e = c.in_ok-size.ensures in
+    let e = c.in_ok-size.ensures.gathers in
     record {
       can = search rules;
       ends = search rules;
@@ -31,7 +31,7 @@ returns-in_err-size-clause-answer c =
     let first : lines old.iter.rest.now ≡ c.in-Some.line.now ∷ lines new.iter.rest.now = search rules in
     let here : c.in-Some.i ≡ old.count = search rules in
     let p = err_from_is_err_and c.from_residual.result c.from_residual.ensures.1 in
-    let refused = rw here at c.in_err-size.ensures in
+    let refused = rw here at c.in_err-size.ensures.gathers in
     rw (p.1, p.2) (ap gather_answer (gathers_refused _ _ _ _ _ _ l.invariant.gathers _ _ _ _ l.invariant.slots (page_first _ _ new.iter.rest.now first) refused))
 
 pub returns-clause-answer : goal.returns-clause-answer
