@@ -103,7 +103,7 @@ impl<'a> Tokens<'a> {
         Tokens { rest: line }
     }
 
-    // The bytes that are left; all are read once there is no more token.
+    // The bytes that are left: none, once `next` has answered that there is no more token.
     pub fn rest(&self) -> &'a [u8]
         ensures { result.now ≡ self.now.rest.now }
     {
